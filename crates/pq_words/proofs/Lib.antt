@@ -1,0 +1,6 @@
+pub mod FirstLaws
+pub mod PrefixLaws
+pub mod SortedLaws
+pub mod SuccessorLaws
+pub mod WorkedSignal
+mod StandardFacts

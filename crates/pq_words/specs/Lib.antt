@@ -1,0 +1,5 @@
+pub mod First
+pub mod Steps
+pub mod Sorted
+pub mod Successors
+pub mod Text
