@@ -3,3 +3,4 @@ pub mod Steps
 pub mod Sorted
 pub mod Successors
 pub mod Text
+pub mod Magnitude
