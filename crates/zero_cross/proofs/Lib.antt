@@ -1,0 +1,3 @@
+mod StandardFacts
+pub mod RuleLaws
+pub mod BoundaryLaws

@@ -1,0 +1,7 @@
+use Rattle.zero_cross.specs.Boundary.{crosses_at}
+use Rattle.pq_words.specs.First.{Nowhere}
+use Rattle.zero_cross.proofs.boundary.crossing.Given as goal
+
+-- no place before the one at hand crosses
+abbrev pub invariant-loop-i : goal.invariant-loop-i
+invariant-loop-i l = Nowhere (crosses_at l.s l.rising) l.low l.i
