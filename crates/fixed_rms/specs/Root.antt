@@ -1,0 +1,33 @@
+-- The subject: the root of the mean square, the r.m.s. value (IEC 61000-4-30:2015, 4.5 and 5.2). Whole microvolts and rounding down are profile.
+use Rattle.std.specs.Prelude.{ℕ, zero, suc, ◌+◌, ◌*◌, ◌/◌, ◌<◌, ◌≤◌, nat_le, List, length, sum_by, ℤ, unsigned_abs, if◌then◌else◌}
+
+-- r is the greatest number whose square is at most x (profile)
+pub record IsGreatestRoot (x r : ℕ) : Type 0 where
+  pub square : r * r ≤ x
+  pub next : x < (r + 1) * (r + 1)
+
+-- that number, of an x below 4 ^ n: twice the root of a quarter of x, and one more where the square of that still fits
+unfoldable pub root_in : ℕ → ℕ → ℕ
+root_in zero x = 0
+root_in (suc n) x =
+    let even = 2 * root_in n (x / 4) in
+    if nat_le ((even + 1) * (even + 1)) x then even + 1 else even
+
+-- the greatest number whose square is at most x, of an x below 2 ^ 128 (profile)
+unfoldable pub isqrt : ℕ → ℕ
+isqrt x = root_in 64 x
+
+abbrev pub square : ℕ → ℕ
+square n = n * n
+
+-- the mean of the squares of samples in microvolts, rounded down
+unfoldable pub mean_square : List ℤ → ℕ
+mean_square samples = sum_by (λ sample. square (unsigned_abs sample)) samples / length samples
+
+-- the root of the mean square of samples, in microvolts (5.2)
+unfoldable pub rms : List ℤ → ℕ
+rms samples = isqrt (mean_square samples)
+
+-- the root of the mean of the squares of values that are roots themselves, in microvolts (aggregation, 4.5)
+unfoldable pub root_mean : List ℕ → ℕ
+root_mean values = isqrt (sum_by square values / length values)
