@@ -1,5 +1,7 @@
 pub mod Causes
-pub mod Memory
+pub mod MemoryShelf
+pub mod MemorySink
 pub mod Outside
+pub mod Place
 pub mod Recorded
 pub mod Sample

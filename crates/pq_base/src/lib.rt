@@ -15,4 +15,6 @@ mod real;
 mod recording;
 mod shelf;
 mod sink;
+#[cfg(test)]
+mod tests;
 mod text;

@@ -1,12 +1,13 @@
-// A sink and a shelf in memory, whose calls fail by a list.
-ghost use Rattle.std.specs.Prelude.{◌≡◌, ◌≤◌, ◌<◌, ◌↔◌, ◌⊎◌, ◌+◌, ◌-◌, ◌^◌, min, [], length, IfOk, IsErr, Contains, Some, vec_len, vec_capacity};
+// A sink in memory, whose calls fail by a list.
+ghost use Rattle.std.specs.Prelude.{◌≡◌, ◌≤◌, ◌<◌, ◌↔◌, ◌⊎◌, ◌-◌, min, [], length, IfOk, IsErr, Contains, Some, is_ok, if◌then◌else◌};
 ghost use Rattle.std.specs.Io.KnownBytes.{WriteAppends};
-ghost use Rattle.pq_base.specs.Causes.{HasCause};
+ghost use Rattle.pq_base.specs.Causes.{HasCause, next_count};
 
 use crate::{Failed, OutOfMemory, Sink};
 use std::alloc::Global;
+use std::marker::Model;
 
-/// A sink that keeps the bytes, and fails at the calls that a list names.
+/// A sink that keeps the bytes in room reserved at its making, and whose calls fail by a list.
 #[derive(Drop)]
 pub struct MemSink {
     bytes: Vec<u8>,
@@ -15,12 +16,22 @@ pub struct MemSink {
     piece: usize,
     calls: u64,
     faults: u64,
-    ghost reserved: { room ≤ vec_capacity bytes },
-    ghost within: { vec_len bytes ≤ room },
-    ghost some_piece: { 0 < piece },
+}
+
+impl Model for MemSink {
+    ghost use Rattle.std.specs.Prelude.{◌≤◌, ◌<◌, vec_len, vec_capacity};
+    ghost use Rattle.pq_base.specs.MemorySink.{MemorySink};
+
+    ghost Value = { MemorySink };
+
+    ghost view = { λ a. record { taken = a.bytes.items; room = a.room; fails = a.fails.items; piece = a.piece; calls = a.calls; faults = a.faults } };
+
+    ghost invariant = { λ a. (a.room ≤ vec_capacity a.bytes) × (vec_len a.bytes ≤ a.room) × (0 < a.piece) };
 }
 
 impl MemSink {
+    /// A sink with room for so many bytes, of which none is taken yet. The calls of `write` that
+    /// `fails` lists, counted from 0, fail; a write takes at most `piece` bytes.
     pub fn new(
         alloc: Global,
         room: u64,
@@ -28,9 +39,7 @@ impl MemSink {
         piece: u64,
     ) -> Result<MemSink, OutOfMemory>
         requires { 0 < piece }
-        ensures taken { IfOk result (λ sink. sink.bytes.items ≡ []) }
-        ensures fresh { IfOk result (λ sink. (sink.calls ≡ 0) × (sink.faults ≡ 0)) }
-        ensures set { IfOk result (λ sink. (sink.room ≡ room) × (sink.piece ≡ piece) × (sink.fails.items ≡ fails.items)) }
+        ensures { IfOk result (λ sink. sink ≡ record { taken = []; room = room; fails = fails.items; piece = piece; calls = 0; faults = 0 }) }
     {
         let room = room as usize;
         let Ok(bytes) = Vec::with_capacity(alloc, room) else {
@@ -48,26 +57,30 @@ impl MemSink {
 
     /// The bytes taken so far.
     pub fn taken(&self) -> &[u8]
-        ensures { result.now ≡ self.now.bytes.items }
+        ensures { result.now ≡ self.now.taken }
     {
         self.bytes.as_slice()
     }
 }
 
 impl Sink for MemSink {
-    ghost taken = { λ s. Some s.bytes.items };
+    ghost taken = { λ s. Some s.taken };
 
     ghost faults = { λ s. s.faults };
 
+    /// Takes as many bytes as the least of the piece, what is handed in and the room that is left.
     fn write(&mut self, piece: &[u8]) -> Result<usize, Failed>
         requires { 0 < length piece.now }
         ensures count { IfOk result (λ n. (0 < n) × (n ≤ length piece.now)) }
-        ensures bytes { WriteAppends (Some self.old.bytes.items) (Some self.new.bytes.items) result piece.now }
+        ensures bytes { WriteAppends (Some self.old.taken) (Some self.new.taken) result piece.now }
         ensures cause { HasCause self.old.faults self.new.faults result }
-        ensures amount { IfOk result (λ n. n ≡ min (min self.old.piece (length piece.now)) (self.old.room - vec_len self.old.bytes)) }
-        ensures fails { IsErr result ↔ (Contains self.old.fails.items self.old.calls ⊎ (self.old.room ≤ vec_len self.old.bytes)) }
-        ensures calls { self.new.calls ≡ min (self.old.calls + 1) (2 ^ 64 - 1) }
-        ensures same { (self.new.fails.items ≡ self.old.fails.items) × (self.new.room ≡ self.old.room) × (self.new.piece ≡ self.old.piece) }
+
+        // Which calls fail, how many bytes a write takes, and the counts.
+        ensures fails { IsErr result ↔ (Contains self.old.fails self.old.calls ⊎ (self.old.room ≤ length self.old.taken)) }
+        ensures amount { IfOk result (λ n. n ≡ min (min self.old.piece (length piece.now)) (self.old.room - length self.old.taken)) }
+        ensures calls { self.new.calls ≡ next_count self.old.calls }
+        ensures counted { self.new.faults ≡ (if is_ok result then self.old.faults else next_count self.old.faults) }
+        ensures same { self.new ≡ record self.old { taken = self.new.taken; calls = self.new.calls; faults = self.new.faults } }
     {
         let call = self.calls;
         self.calls = call.saturating_add(1);

@@ -1,13 +1,14 @@
 // What gives files.
 ghost use Rattle.std.specs.Prelude.{◌≡◌, ◌<◌, ◌≤◌, ℕ, List, Option, length, IfOk, IfSome, OnOk, OnErr, IsErrOf};
 ghost use Rattle.std.specs.Io.{ReadsAtMost};
-ghost use Rattle.std.specs.Io.KnownBytes.{ReadConsumes};
+ghost use Rattle.std.specs.Io.KnownBytes.{ReadConsumes, IsAtEnd};
 ghost use Rattle.pq_base.specs.Causes.{HasCause, Rose};
-ghost use Rattle.pq_base.specs.Outside.{Files, Opens, Holds, IsMissing, IsOver};
+ghost use Rattle.pq_base.specs.Outside.{Files, Opens, Holds, IsThere, IsMissing, IsOver};
 
 use crate::Failed;
 use std::alloc::{AllocError, Global};
 
+/// Files that are opened by name and read in pieces. Before the first `open` the rest is empty.
 pub trait Shelf {
     /// The files by name, where it tells them.
     ghost files: { Self → Option Files };
@@ -21,14 +22,17 @@ pub trait Shelf {
     /// How many faults there were.
     ghost faults: { Self → ℕ };
 
-    /// Opens a file of this name, if there is one.
+    /// Opens the file of this name; `Ok(false)` where there is none. What was left of an earlier file
+    /// is dropped, also by an `open` that fails.
     fn open(&mut self, name: &str) -> Result<bool, Failed>
         ensures files { files self.new ≡ files self.old }
         ensures asked { IfSome (asked self.new) (λ n. n ≡ name.now) }
         ensures opened { IfOk result (λ found. Opens (files self.old) name.now found (rest self.new)) }
+        ensures dropped { OnErr result (IsAtEnd (rest self.new)) }
+        ensures present { OnErr result (IsThere (files self.old) name.now) }
         ensures cause { HasCause (faults self.old) (faults self.new) result };
 
-    /// Reads the next bytes.
+    /// Reads the next bytes of the opened file, and answers how many: 0 only at the end.
     fn read(&mut self, into: &mut [u8]) -> Result<usize, Failed>
         requires { 0 < length into.old }
         ensures files { files self.new ≡ files self.old }
@@ -37,6 +41,7 @@ pub trait Shelf {
         ensures bytes { ReadConsumes (rest self.old) (rest self.new) result into.new }
         ensures cause { HasCause (faults self.old) (faults self.new) result };
 
+    /// How many calls failed. The count never falls, and stands still at the end of its type.
     fn faults(&self) -> u64
         ensures { result ≡ faults self.now };
 }
@@ -44,13 +49,18 @@ pub trait Shelf {
 /// Why a file was not read.
 #[derive(Clone, Copy, Debug, PartialEq, Eq)]
 pub enum ReadAll {
+    /// A call of the shelf failed.
     Failed,
+    /// There is no file of this name.
     Missing,
+    /// The file has more bytes than the limit.
     Over,
+    /// There is no memory for the bytes.
     OutOfMemory,
 }
 
-/// The whole file of this name, if it has at most `limit` bytes.
+/// The whole file of this name, if it has at most `limit` bytes. It asks `open` once, and each
+/// further turn takes at least one byte.
 pub fn read_all<K: Shelf>(
     alloc: Global,
     shelf: &mut K,
@@ -65,6 +75,10 @@ pub fn read_all<K: Shelf>(
     ensures over { IsErrOf result ReadAll.Over → IsOver (K.files shelf.old) name.now limit }
     ensures failed { IsErrOf result ReadAll.Failed → Rose (K.faults shelf.old) (K.faults shelf.new) }
     ensures later { K.faults shelf.old ≤ K.faults shelf.new }
+
+    // So Missing is the one answer where the told files have no such name.
+    ensures present { IsErrOf result ReadAll.Failed → IsThere (K.files shelf.old) name.now }
+    ensures memory { IsErrOf result ReadAll.OutOfMemory → IsThere (K.files shelf.old) name.now }
 {
     match shelf.open(name) {
         Ok(true) => read_rest(alloc, shelf, limit),
@@ -72,6 +86,9 @@ pub fn read_all<K: Shelf>(
         Err(Failed) => Err(ReadAll::Failed),
     }
 }
+
+// How many bytes are asked for at once.
+const PIECE: usize = 65_536;
 
 fn read_rest<K: Shelf>(alloc: Global, shelf: &mut K, limit: u64) -> Result<Vec<u8>, ReadAll>
     ensures files { K.files shelf.new ≡ K.files shelf.old }
@@ -84,7 +101,7 @@ fn read_rest<K: Shelf>(alloc: Global, shelf: &mut K, limit: u64) -> Result<Vec<u
     ensures later { K.faults shelf.old ≤ K.faults shelf.new }
 {
     let mut bytes = Vec::new(alloc);
-    let mut piece = [0; 4096];
+    let mut piece = [0; PIECE];
     while bytes.len() as u64 <= limit {
         match shelf.read(&mut piece) {
             Ok(0) => return Ok(bytes),

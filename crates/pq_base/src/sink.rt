@@ -4,7 +4,7 @@ ghost use Rattle.std.specs.Io.KnownBytes.{Appends, WriteAppends};
 ghost use Rattle.pq_base.specs.Causes.{HasCause};
 ghost use Rattle.pq_base.specs.Outside.{AppendsFront};
 
-/// The outside failed.
+/// A call of the outside failed: its count of faults rose, and nothing was taken or given.
 #[derive(Clone, Copy, Debug, PartialEq, Eq)]
 pub struct Failed;
 
@@ -12,6 +12,7 @@ pub struct Failed;
 #[derive(Clone, Copy, Debug, PartialEq, Eq)]
 pub struct OutOfMemory;
 
+/// What takes bytes, in pieces.
 pub trait Sink {
     /// The bytes taken, where it tells them.
     ghost taken: { Self → Option (List ℕ) };
@@ -19,18 +20,19 @@ pub trait Sink {
     /// How many faults there were.
     ghost faults: { Self → ℕ };
 
-    /// Takes a front of the piece, and answers how many bytes.
+    /// Takes a front of the piece, and answers how many bytes: at least one.
     fn write(&mut self, piece: &[u8]) -> Result<usize, Failed>
         requires { 0 < length piece.now }
         ensures count { IfOk result (λ n. (0 < n) × (n ≤ length piece.now)) }
         ensures bytes { WriteAppends (taken self.old) (taken self.new) result piece.now }
         ensures cause { HasCause (faults self.old) (faults self.new) result };
 
+    /// How many calls failed. The count never falls, and stands still at the end of its type.
     fn faults(&self) -> u64
         ensures { result ≡ faults self.now };
 }
 
-/// Writes all of it, or a front.
+/// Writes all of it, in as few pieces as the sink takes; where a write fails, a front was taken.
 pub fn write_all<O: Sink>(out: &mut O, bytes: &[u8]) -> Result<(), Failed>
     ensures ok { OnOk result (Appends (O.taken out.old) (O.taken out.new) bytes.now) }
     ensures err { OnErr result (AppendsFront (O.taken out.old) (O.taken out.new) bytes.now) }

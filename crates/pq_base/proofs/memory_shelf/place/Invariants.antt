@@ -1,5 +1,6 @@
 use Rattle.std.proofs.Common.{◌≡◌, ◌+◌, map, drop}
-use Rattle.pq_base.specs.Memory.{shelved, place_of}
+use Rattle.pq_base.specs.MemoryShelf.{shelved}
+use Rattle.pq_base.proofs.Places.{place_of}
 use Rattle.pq_base.proofs.memory_shelf.place.Given as goal
 
 -- no file so far has the name

@@ -1,0 +1,88 @@
+use crate::*;
+use std::alloc::{AllocError, Global};
+use std::test::Fail;
+
+fn file(alloc: Global, name: &str, bytes: &[u8]) -> Result<(String, Vec<u8>), AllocError> {
+    let mut content = Vec::new(alloc);
+    content.extend_from_slice(bytes)?;
+    Ok((String::from_str(alloc, name)?, content))
+}
+
+// Seven bytes and, under the same name, two others; and an empty file. At most three bytes a read.
+fn shelf(alloc: Global, fails: u64) -> Result<MemShelf, AllocError> {
+    let files = vec![in alloc; file(alloc, "a", b"abcdefg")?, file(alloc, "b", b"")?, file(alloc, "a", b"zz")?]?;
+    Ok(MemShelf::new(files, vec![in alloc; fails]?, 3))
+}
+
+// The call that fails, the name and the limit; what is read, and how many faults there are then.
+const READS: [(u64, &str, u64, Result<&[u8], ReadAll>, u64); 11] = [
+    (9, "a", 7, Ok(b"abcdefg"), 0),
+    (9, "a", 6, Err(ReadAll::Over), 0),
+    (9, "b", 0, Ok(b""), 0),
+    (9, "c", 7, Err(ReadAll::Missing), 0),
+    (0, "a", 7, Err(ReadAll::Failed), 1),
+    (0, "c", 7, Err(ReadAll::Missing), 0),
+    (2, "a", 7, Err(ReadAll::Failed), 1),
+    (4, "a", 7, Err(ReadAll::Failed), 1),
+    (3, "a", 6, Err(ReadAll::Failed), 1),
+    (4, "a", 6, Err(ReadAll::Over), 0),
+    (5, "a", 7, Ok(b"abcdefg"), 0),
+];
+
+// The room, the call that fails and what is written at most four bytes a call; whether all of it is
+// taken, what was taken and how many faults there are then.
+const WRITES: [(u64, u64, &[u8], Result<(), Failed>, &[u8], u64); 6] = [
+    (6, 9, b"abcdef", Ok(()), b"abcdef", 0),
+    (0, 9, b"", Ok(()), b"", 0),
+    (5, 9, b"abcdef", Err(Failed), b"abcde", 1),
+    (6, 0, b"abcdef", Err(Failed), b"", 1),
+    (6, 1, b"abcdef", Err(Failed), b"abcd", 1),
+    (6, 2, b"abcdef", Ok(()), b"abcdef", 0),
+];
+
+#[test]
+fn failing_calls_in_memory(rt: HostRuntime) -> Result<(), Fail> {
+    let alloc = rt.alloc();
+    for (fails, name, limit, expected, faults) in READS {
+        let mut shelf = shelf(alloc, fails)?;
+        let found = read_all(alloc, &mut shelf, name, limit);
+        let found = found.as_ref().map(|bytes| bytes.as_slice());
+        assert_eq!(rt; found, expected.as_ref().map(|bytes| *bytes), "{name} {limit} {fails}");
+        assert_eq!(rt; shelf.faults(), faults, "{name} {limit} {fails}");
+    }
+    for (room, fails, bytes, expected, taken, faults) in WRITES {
+        let Ok(mut sink) = MemSink::new(alloc, room, vec![in alloc; fails]?, 4) else {
+            return Err(Fail::from(AllocError));
+        };
+        assert_eq!(rt; write_all(&mut sink, bytes), expected, "{room} {fails}");
+        assert_eq!(rt; sink.taken(), taken, "{room} {fails}");
+        assert_eq!(rt; sink.faults(), faults, "{room} {fails}");
+    }
+    Ok(())
+}
+
+#[test]
+fn real_files_and_output(rt: HostRuntime) -> Result<(), Fail> {
+    let alloc = rt.alloc();
+    let mut shelf = FileShelf::new(&rt);
+    let mut piece = [1; 4];
+    assert_eq!(rt; shelf.read(&mut piece), Ok(0));
+    assert_eq!(rt; shelf.open("no such folder/no such file"), Ok(false));
+    assert_eq!(rt; read_all(alloc, &mut shelf, "/dev/zero", 200_000), Err(ReadAll::Over));
+    assert_eq!(rt; read_all(alloc, &mut shelf, "/dev/null", 0)?.len(), 0);
+    assert_eq!(rt; shelf.faults(), 0);
+    // A directory is opened, and its first read is refused.
+    assert_eq!(rt; shelf.open("."), Ok(true));
+    assert_eq!(rt; shelf.read(&mut piece), Err(Failed));
+    assert_eq!(rt; shelf.faults(), 1);
+    // What was opened last is dropped, also where nothing is opened.
+    assert_eq!(rt; shelf.open("/dev/zero"), Ok(true));
+    assert_eq!(rt; shelf.read(&mut piece), Ok(4));
+    assert_eq!(rt; piece, [0; 4]);
+    assert_eq!(rt; shelf.open("no such file"), Ok(false));
+    assert_eq!(rt; shelf.read(&mut piece), Ok(0));
+    let mut out = OutSink::new(&rt);
+    assert_eq!(rt; write_all(&mut out, b"\n"), Ok(()));
+    assert_eq!(rt; out.faults(), 0);
+    Ok(())
+}
