@@ -1,0 +1,9 @@
+pub mod BasicInterval
+pub mod DatRecord
+pub mod Intervals
+pub mod ReportText
+pub mod StatusText
+pub mod StrictCfg
+pub mod TopCall
+pub mod Verdict
+pub mod Words

@@ -1,0 +1,15 @@
+//! The top calls: from words, files and a sink to a status.
+#![tactic(auto)]
+
+pub use status::{DatFault, Quantity, Status, Unsupported, fault_text};
+pub use top_call::still;
+
+mod basic;
+mod dat;
+mod intervals;
+mod number;
+mod report;
+mod status;
+mod strict_cfg;
+mod top_call;
+mod words;

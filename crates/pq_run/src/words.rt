@@ -1,0 +1,42 @@
+// The words of the command `intervals`.
+ghost use Rattle.std.specs.Prelude.{◌≡◌, MatchOption, None, Some, map, string_bytes};
+ghost use Rattle.pq_run.specs.Words.{intervals_words, voltage_of};
+
+use crate::number::digits;
+
+/// What the words of `intervals` say: the declared voltage in millivolts, and the names of two files.
+#[derive(Clone, Copy)]
+pub struct IntervalsWords<'a> {
+    pub udin_mv: u64,
+    pub cfg: &'a str,
+    pub dat: &'a str,
+}
+
+/// Reads `intervals --udin MV CFG DAT`; None for any other words.
+#[tactic(auto, unfolding(crate::specs::Words::intervals_words))]
+pub fn intervals<'a>(words: &'a [String]) -> Option<IntervalsWords<'a>>
+    ensures { MatchOption result (intervals_words (map string_bytes words.now) ≡ None) (λ said. intervals_words (map string_bytes words.now) ≡ Some (record { udin_mv = said.udin_mv; cfg = said.cfg.now; dat = said.dat.now })) }
+{
+    let [command, option, mv, cfg, dat] = words else {
+        return None;
+    };
+    if command.as_str() != "intervals" || option.as_str() != "--udin" {
+        return None;
+    }
+    let udin_mv = declared_voltage(mv.as_str())?;
+    Some(IntervalsWords {
+        udin_mv,
+        cfg: cfg.as_str(),
+        dat: dat.as_str(),
+    })
+}
+
+// One to ten digits, from 1 to 1,000,000,000 millivolts.
+fn declared_voltage(text: &str) -> Option<u64>
+    ensures { result ≡ voltage_of text.now }
+{
+    match digits(text.as_bytes(), 10) {
+        Some(millivolts) if 1 <= millivolts && millivolts <= 1_000_000_000 => Some(millivolts),
+        _ => None,
+    }
+}
