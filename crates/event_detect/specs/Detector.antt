@@ -1,7 +1,8 @@
 -- What contracts see of a detector, over the list of the conditions that it was fed.
-use Rattle.std.specs.Prelude.{◌≡◌, ℕ, Bool, true, List, [], ◌∷◌, ◌++◌, flat_map, Option, option_map, option_to_list}
+use Rattle.std.specs.Prelude.{ℕ, Bool, true, nat_lt, if◌then◌else◌, List, [], ◌∷◌, ◌++◌, Option, option_map}
 use Rattle.event_detect.specs.declared.event.Event.{Event}
 use Rattle.event_detect.specs.declared.kind.Kind.{Kind}
+use Rattle.event_detect.specs.declared.kind.Kind.TheVariants.{Dip, Swell, Interruption}
 use Rattle.event_detect.specs.declared.window.Window.{Window}
 use Rattle.event_detect.specs.VoltageEvent.{Condition, EndsAtLast, IsLeftOpen}
 
@@ -39,3 +40,13 @@ SeesMore old new c = (fed : List Condition) → HasSeen old fed → HasSeen new 
 -- whatever a detector has seen, this event is left open at n, or none
 abbrev pub LeavesOpen : Watch → ℕ → Option Event → Type 0
 LeavesOpen watch n answer = (fed : List Condition) → HasSeen watch fed → IsLeftOpen watch.kind n fed answer
+
+-- value a is worse than b: less for a dip and an interruption, greater for a swell
+abbrev pub is_worse : Kind → ℕ → ℕ → Bool
+is_worse Dip a b = nat_lt a b
+is_worse Swell a b = nat_lt b a
+is_worse Interruption a b = nat_lt a b
+
+-- what is known after one more window: the first of equally bad values stays
+abbrev pub with_seen : Kind → Running → ℕ → ℕ → Running
+with_seen kind r channel value = if is_worse kind value r.value then record { start = r.start; channel = channel; value = value } else r
