@@ -4,8 +4,8 @@ use Rattle.std.proofs.lemmas.List.{append_cancel_left}
 use Rattle.event_detect.specs.declared.event.Event.{Event}
 use Rattle.event_detect.specs.declared.kind.Kind.{Kind}
 use Rattle.event_detect.specs.VoltageEvent.{Condition, event_from, extents, events, ended_events}
-use Rattle.event_detect.specs.Detector.{Running, Watch, open_at, HasSeen, Ends, SeesMore, is_worse, with_seen}
-use Rattle.event_detect.proofs.EventLaws.{open_event, open_event_push, next_event, ended_event, ended_events_push, events_split}
+use Rattle.event_detect.specs.Detector.{Running, Watch, open_at, HasSeen, Ends, SeesMore, StartsOpen, is_worse, with_seen}
+use Rattle.event_detect.proofs.EventLaws.{open_event, open_event_push, next_event, ended_event, ended_events_push, events_split, open_start_is}
 use Rattle.pq_words.specs.First.{first_of, first_between}
 use Rattle.pq_words.specs.Successors.{successors}
 
@@ -73,3 +73,7 @@ with_parts kind r channel value start' channel' value' same_start same_channel s
     at : (b : Bool) → cond b (made r.start channel value) r ≡ made r.start (cond b channel r.channel) (cond b value r.value)
     at true = refl
     at false = refl
+
+-- where the event that runs began
+pub starts_open : (w : Watch) (answer : Option ℕ) → answer ≡ option_map (λ r. r.start) w.running → StartsOpen w answer
+starts_open w answer is fed seen = is ∙ ap (option_map (λ (r : Running). r.start)) (running_is w fed seen) ∙ sym (open_start_is w.kind fed)

@@ -1,11 +1,13 @@
 -- One more condition on a list: which event it ends, and what is known then of the event that is open.
-use Rattle.std.proofs.Common.{◌≡◌, ℕ, zero, suc, ◌+◌, ◌-◌, ◌<◌, ◌≤◌, Bool, true, false, cond, List, [], ◌∷◌, ◌++◌, length, map, filter, Option, Some, None, is_some, option_map, option_to_list, option_and_then, slice_get, slice_range, drop, take, refl, sym, ◌∙◌, ap, subst, arith}
+use Rattle.std.proofs.Common.{◌≡◌, ℕ, zero, suc, ◌+◌, ◌-◌, ◌<◌, ◌≤◌, Bool, true, false, cond, List, [], ◌∷◌, ◌++◌, length, map, filter, find, Option, Some, None, is_some, option_map, option_to_list, option_and_then, slice_get, slice_range, drop, take, refl, sym, ◌∙◌, ap, subst, arith}
 use Rattle.std.specs.Option.{option_map_or}
+use Rattle.std.specs.Option.{option_or}
+use Rattle.std.proofs.lemmas.List.Folds.{find-append}
 use Rattle.std.proofs.Math.Seq.{append_snoc, drop-length}
 use Rattle.std.proofs.lemmas.List.{append-nil, length_push, length-drop, take_all, take_rest, take-append-le, drop-append-le}
 use Rattle.event_detect.specs.declared.event.Event.{Event}
 use Rattle.event_detect.specs.declared.kind.Kind.{Kind}
-use Rattle.event_detect.specs.VoltageEvent.{Condition, Extent, event_from, extents, event_over, events, ended_events, seen_value}
+use Rattle.event_detect.specs.VoltageEvent.{Condition, Extent, event_from, extents, event_over, events, ended_events, open_start, seen_value}
 use Rattle.pq_words.specs.First.{first_of, first_between}
 use Rattle.pq_words.specs.Successors.{successors}
 use Rattle.event_detect.specs.Detector.{Running, open_at, with_seen}
@@ -284,3 +286,28 @@ unfolding events ended_events
 events_split kind n cs =
     split_from kind n cs (extents cs) (extents_within cs)
     ∙ ap (λ o. map (event_over kind 0 cs) (filter has_ended (extents cs)) ++ option_to_list o) (open_is kind n cs (open_of (extents cs)))
+
+-- none of those that have ended is open
+none_open : (kind : Kind) (cs : List Condition) (es : List Extent) → find (λ event. event.is_open) (map (event_over kind 0 cs) (filter has_ended es)) ≡ None
+unfolding event_over
+none_open kind cs [] = refl
+none_open kind cs (x ∷ xs) = at x.first x.last (none_open kind cs xs)
+  where
+    at : (f : ℕ) (last : Option ℕ) → find (λ event. event.is_open) (map (event_over kind 0 cs) (filter has_ended xs)) ≡ None
+        → find (λ event. event.is_open) (map (event_over kind 0 cs) (filter has_ended (extent f last ∷ xs))) ≡ None
+    at f None more = more
+    at f (Some k) more = more
+
+pub open_start_is : (kind : Kind) (cs : List Condition) → open_start kind cs ≡ option_map (λ r. r.start) (open_event kind cs)
+unfolding open_start ended_events
+open_start_is kind cs =
+    let found : List Event → Option ℕ = λ es. option_map (λ event. event.start) (find (λ event. event.is_open) es) in
+    let left : List Event = option_to_list (option_map (open_at kind 0) (open_event kind cs)) in
+    ap found (events_split kind 0 cs)
+    ∙ ap (option_map (λ event. event.start)) (find-append (λ event. event.is_open) (ended_events kind cs) left)
+    ∙ ap (λ o. option_map (λ event. event.start) (option_or o (find (λ event. event.is_open) left))) (none_open kind cs (extents cs))
+    ∙ of_left (open_event kind cs)
+  where
+    of_left : (o : Option Running) → option_map (λ event. event.start) (find (λ event. event.is_open) (option_to_list (option_map (open_at kind 0) o))) ≡ option_map (λ r. r.start) o
+    of_left None = refl
+    of_left (Some r) = refl

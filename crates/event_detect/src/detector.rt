@@ -1,6 +1,6 @@
 // The machine that finds the events of one kind, window by window.
 ghost use Rattle.std.specs.Prelude.{◌≡◌, ◌↔◌, [], IsTrue, IsSome, option_map, if◌then◌else◌};
-ghost use Rattle.event_detect.specs.Detector.{HasSeen, Ends, SeesMore, LeavesOpen, condition, is_worse};
+ghost use Rattle.event_detect.specs.Detector.{HasSeen, Ends, SeesMore, LeavesOpen, StartsOpen, condition, is_worse};
 
 use std::marker::Model;
 
@@ -98,6 +98,7 @@ impl Detector {
         window: Window,
     ) -> Option<Event>
         requires { IsTrue begins → ¬ IsTrue ends }
+        ensures succeeds { IsSome result ↔ IsSome self.old.running × IsTrue ends }
         ensures value { Ends self.old (condition begins ends channel window) result }
         ensures seen { SeesMore self.old self.new (condition begins ends channel window) }
         ensures same { self.new.kind ≡ self.old.kind }
@@ -129,16 +130,15 @@ impl Detector {
         ensures seen { HasSeen self.new [] }
         ensures same { self.new.kind ≡ self.old.kind }
     {
-        let running = self.running?;
-        self.running = None;
+        let running = self.running.take()?;
         Some(running.event(self.kind, n, true))
     }
 
     /// The start of the running event.
     pub fn running(&self) -> Option<u64>
-        ensures { result ≡ option_map (λ r. r.start) self.now.running }
+        ensures value { result ≡ option_map (λ r. r.start) self.now.running }
+        ensures start { StartsOpen self.now result }
     {
-        let running = self.running?;
-        Some(running.start)
+        self.running.map(|running| running.start)
     }
 }
