@@ -16,6 +16,7 @@ open_only kind r s same = sym (back r) ∙ ap known_in same ∙ back s
     known_in : List Event → Option Running
     known_in [] = None
     known_in (e ∷ es) = Some (record { start = e.start; channel = e.channel; value = e.value })
+
     back : (r : Option Running) → known_in (option_to_list (option_map (open_at kind 0) r)) ≡ r
     back None = refl
     back (Some r) = refl
@@ -70,6 +71,7 @@ with_parts kind r channel value start' channel' value' same_start same_channel s
   where
     made : ℕ → ℕ → ℕ → Running
     made s x v = record { start = s; channel = x; value = v }
+
     at : (b : Bool) → cond b (made r.start channel value) r ≡ made r.start (cond b channel r.channel) (cond b value r.value)
     at true = refl
     at false = refl

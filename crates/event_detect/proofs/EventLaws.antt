@@ -78,8 +78,8 @@ pub extents_within : (cs : List Condition) → AreWithin (length cs) (extents cs
 extents_within cs =
     by_pushes (λ cs. AreWithin (length cs) (extents cs)) within_none
     (λ cs c within.
-      subst (λ es. AreWithin (length (cs ++ c ∷ [])) es) (sym (extents_push cs c))
-      (subst (λ n. AreWithin n (add_place c.begins c.ends (length cs) (extents cs))) (sym (length_push cs c)) (within_push (length cs) c.begins c.ends (extents cs) within)))
+    subst (λ es. AreWithin (length (cs ++ c ∷ [])) es) (sym (extents_push cs c))
+    (subst (λ n. AreWithin n (add_place c.begins c.ends (length cs) (extents cs))) (sym (length_push cs c)) (within_push (length cs) c.begins c.ends (extents cs) within)))
     cs
 
 -- the open one after one more place
@@ -237,7 +237,7 @@ ended_from kind cs c b e (x ∷ xs) within = at x.first x.last e (ended_from kin
   where
     at : (f : ℕ) (last : Option ℕ) (e : Bool)
         → (AreWithin (length cs) xs → map (event_over kind 0 (cs ++ c ∷ [])) (filter has_ended (add_place b e (length cs) xs))
-          ≡ map (event_over kind 0 cs) (filter has_ended xs) ++ option_to_list (ended_event kind e c (option_map (known_from kind cs) (open_of xs))))
+        ≡ map (event_over kind 0 cs) (filter has_ended xs) ++ option_to_list (ended_event kind e c (option_map (known_from kind cs) (open_of xs))))
         → AreWithin (length cs) (extent f last ∷ xs)
         → map (event_over kind 0 (cs ++ c ∷ [])) (filter has_ended (add_place b e (length cs) (extent f last ∷ xs)))
         ≡ map (event_over kind 0 cs) (filter has_ended (extent f last ∷ xs)) ++ option_to_list (ended_event kind e c (option_map (known_from kind cs) (open_of (extent f last ∷ xs))))

@@ -31,15 +31,15 @@ gone w last fed (c ∷ cs) (a ∷ more) seen steps =
     let rest = gone next last (fed ++ c ∷ []) cs more (steps.2 fed seen) steps.4 in
     let longer : (fed ++ c ∷ []) ++ cs ≡ fed ++ c ∷ cs = append_snoc fed c cs in
     let given : ended_events w.kind ((fed ++ c ∷ []) ++ cs) ≡ ended_events w.kind (fed ++ c ∷ []) ++ flat_map option_to_list more =
-      subst (λ kind. ended_events kind ((fed ++ c ∷ []) ++ cs) ≡ ended_events kind (fed ++ c ∷ []) ++ flat_map option_to_list more) steps.3 rest.given in
+    subst (λ kind. ended_events kind ((fed ++ c ∷ []) ++ cs) ≡ ended_events kind (fed ++ c ∷ []) ++ flat_map option_to_list more) steps.3 rest.given in
     record {
       kind = rest.kind ∙ steps.3;
       seen = subst (λ cs. HasSeen last cs) longer rest.seen;
       given =
-        ap (ended_events w.kind) (sym longer)
-        ∙ given
-        ∙ ap (λ es. es ++ flat_map option_to_list more) (steps.1 fed seen)
-        ∙ append_assoc (ended_events w.kind fed) (option_to_list a) (flat_map option_to_list more);
+          ap (ended_events w.kind) (sym longer)
+          ∙ given
+          ∙ ap (λ es. es ++ flat_map option_to_list more) (steps.1 fed seen)
+          ∙ append_assoc (ended_events w.kind fed) (option_to_list a) (flat_map option_to_list more);
     }
 gone w last fed [] (a ∷ more) seen steps = absurd steps
 gone w last fed (c ∷ cs) [] seen steps = absurd steps
@@ -57,6 +57,7 @@ ended_there kind true c (Some r) event is = (sym (ap (ending event) is), sym (ap
     ending : Event → Option Event → ℕ
     ending other None = other.end
     ending other (Some event) = event.end
+
     opening : Event → Option Event → Bool
     opening other None = other.is_open
     opening other (Some event) = event.is_open
@@ -67,6 +68,7 @@ one_only a b same = sym (back a) ∙ ap first_in same ∙ back b
     first_in : List Event → Option Event
     first_in [] = None
     first_in (event ∷ more) = Some event
+
     back : (o : Option Event) → first_in (option_to_list o) ≡ o
     back None = refl
     back (Some event) = refl
@@ -79,8 +81,8 @@ at_place w last fed (d ∷ cs) (a ∷ more) zero c event seen steps here there =
     let same : d ≡ c = cc in
     let answer : a ≡ Some event = cc in
     let ended : option_to_list a ≡ option_to_list (ended_event w.kind d.ends d (open_event w.kind fed)) =
-      append_cancel_left (ended_events w.kind fed) (option_to_list a) (option_to_list (ended_event w.kind d.ends d (open_event w.kind fed)))
-      (sym (steps.1 fed seen) ∙ ended_events_push w.kind fed d) in
+    append_cancel_left (ended_events w.kind fed) (option_to_list a) (option_to_list (ended_event w.kind d.ends d (open_event w.kind fed)))
+    (sym (steps.1 fed seen) ∙ ended_events_push w.kind fed d) in
     subst (λ (c : Condition). (event.end ≡ c.window.end) × (event.is_open ≡ false)) same
     (ended_there w.kind d.ends d (open_event w.kind fed) event (sym (one_only a (ended_event w.kind d.ends d (open_event w.kind fed)) ended) ∙ answer))
 at_place w last fed (d ∷ cs) (a ∷ more) (suc k) c event seen steps here there =
@@ -89,10 +91,10 @@ at_place w last fed (d ∷ cs) (a ∷ more) (suc k) c event seen steps here ther
 pub gives_events : GivesEvents
 gives_events = record {
   all = λ n cs first last answers final seen steps left.
-    let after = gone first last [] cs answers seen steps in
-    let ends : events last.kind n cs ≡ ended_events last.kind cs ++ option_to_list final = left cs after.seen in
-    sym
-    (subst (λ kind. events kind n cs ≡ ended_events kind cs ++ option_to_list final) after.kind ends
+      let after = gone first last [] cs answers seen steps in
+      let ends : events last.kind n cs ≡ ended_events last.kind cs ++ option_to_list final = left cs after.seen in
+      sym
+      (subst (λ kind. events kind n cs ≡ ended_events kind cs ++ option_to_list final) after.kind ends
       ∙ ap (λ es. es ++ option_to_list final) (after.given ∙ ap (λ es. es ++ flat_map option_to_list answers) (none_ended first.kind)));
   places = λ cs first last answers k c event seen steps here there. at_place first last [] cs answers k c event seen steps here there;
 }

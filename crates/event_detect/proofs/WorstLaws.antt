@@ -86,7 +86,7 @@ found_before : (kind : Kind) (x y : Condition) (ys : List Condition) (w : Condit
 found_before kind x y ys w true has no_worse least found = found
 found_before kind x y ys w false has no_worse least found =
     let apart : seen_value y ≡ seen_value w → ⊥ = λ e.
-      eqb-false (seen_value x) (seen_value w) has (neither_worse kind (seen_value x) (seen_value y) (subst (λ v. is_worse kind (seen_value x) v ≡ false) (sym e) least) no_worse ∙ e) in
+    eqb-false (seen_value x) (seen_value w) has (neither_worse kind (seen_value x) (seen_value y) (subst (λ v. is_worse kind (seen_value x) v ≡ false) (sym e) least) no_worse ∙ e) in
     ap (λ b. cond b (Some y) (find (has_value w) ys)) (ne_eqb (seen_value y) (seen_value w) apart) ∙ found
 
 found : (kind : Kind) (x : Condition) (xs : List Condition) → find (has_value (first_worst kind x xs)) (x ∷ xs) ≡ Some (first_worst kind x xs)

@@ -2,11 +2,10 @@
 ghost use Rattle.std.specs.Prelude.{◌≡◌, ◌↔◌, [], IsTrue, IsSome, option_map, if◌then◌else◌};
 ghost use Rattle.event_detect.specs.Detector.{HasSeen, Ends, SeesMore, LeavesOpen, StartsOpen, condition, is_worse};
 
-use std::marker::Model;
-
 use crate::event::Event;
 use crate::kind::Kind;
 use crate::window::Window;
+use std::marker::Model;
 
 // What is known of the event that runs: its worst value so far, and the channel that had this first.
 #[derive(Clone, Copy)]
@@ -90,13 +89,7 @@ impl Detector {
     /// Feeds the next place: whether an event would begin there, whether one would end there, and
     /// the window that is seen there with the position of its channel. Gives the event that ends
     /// there.
-    pub fn step(
-        &mut self,
-        begins: bool,
-        ends: bool,
-        channel: u32,
-        window: Window,
-    ) -> Option<Event>
+    pub fn step(&mut self, begins: bool, ends: bool, channel: u32, window: Window) -> Option<Event>
         requires { IsTrue begins → ¬ IsTrue ends }
         ensures succeeds { IsSome result ↔ IsSome self.old.running × IsTrue ends }
         ensures value { Ends self.old (condition begins ends channel window) result }

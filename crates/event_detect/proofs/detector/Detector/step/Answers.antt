@@ -48,8 +48,8 @@ returns-then-ends-clause-value c =
     step_ends c.args.self.now c.self.inside.kind (Some (seen c.in-Some.running)) fed (Some c.event.result)
     (parts c.self.inside.kind c.self.inside.running (Some c.in-Some.running) c.args.self.now c.in-Some.is c.self.view_is)
     (ap (λ b. cond b (Some (answer (with_seen c.self.inside.kind (seen c.in-Some.running) c.args.channel c.args.window.value))) None) c.if-ends.true
-      ∙ ap (λ r. Some (answer r)) more
-      ∙ ap Some (sym c.event.ensures))
+    ∙ ap (λ r. Some (answer r)) more
+    ∙ ap Some (sym c.event.ensures))
 
 pub returns-then-ends-clause-seen : goal.returns-then-ends-clause-seen
 returns-then-ends-clause-seen c =
