@@ -6,7 +6,6 @@ use Rattle.event_detect.specs.declared.limits.Settings.{Settings}
 use Rattle.event_detect.specs.declared.limits.Limits.{Limits}
 use Rattle.event_detect.specs.Threshold.{IsInRange, IsSound, IsInOrder, IsApart, limits_of, class_of}
 
-
 -- more thousandths are more microvolts
 more : (udin a b : ℕ) → 1 ≤ udin → a < b → udin * a < udin * b
 more udin a b some less = mul-lt-mul_of_pos_left less some
