@@ -1,0 +1,6 @@
+pub mod BasicLemmas
+pub mod ConditionLemmas
+pub mod PlaceLaws
+pub mod ResultLaws
+pub mod WalkLemmas
+mod StandardFacts

@@ -1,0 +1,76 @@
+-- Worked recordings with their whole results, so that a wrong rule in the specs does not check.
+use Rattle.std.proofs.Common.{◌≡◌, ◌*◌, ◌^◌, ℕ, ℤ, List, [], ◌∷◌, replicate, true, false, refl, pos}
+use Rattle.pq_base.specs.Recorded.{Recorded}
+use Rattle.event_detect.specs.declared.limits.Limits.{Limits}
+use Rattle.event_detect.specs.Threshold.{limits_of, class_of}
+use Rattle.event_detect.specs.Flag.{is_touched}
+use Rattle.event_detect.specs.VoltageEvent.{event_from, extents, event_over, events}
+use Rattle.pq_items.specs.declared.item.Item.{Item}
+use Rattle.pq_items.specs.declared.item.Item.TheVariants as item
+use Rattle.pq_sequence.specs.BasicInterval.{basic_spans}
+use Rattle.pq_sequence.specs.MeasuredRecording.{all_events}
+use Rattle.pq_sequence.specs.SequentialResult.{items_under, sequential, cut, end_at}
+use Rattle.half_cycle.specs.HalfCycleWindow.{window_between, windows_over, windows}
+use Rattle.fixed_rms.specs.Root.{root_in, isqrt, mean_square, rms}
+use Rattle.zero_cross.specs.Boundary.{rule_of, first_boundary, next_boundary, boundaries, cycle_boundaries}
+use Rattle.pq_words.specs.First.{first_of, first_between}
+use Rattle.pq_words.specs.Successors.{successors}
+use Rattle.pq_words.specs.Sorted.{put_in_order, in_order}
+use Rattle.pq_words.specs.Steps.{numbers_from}
+use Rattle.pq_words.proofs.WorkedSignal.{sine_count, square_count, replaced, sampled, halved}
+
+-- 230 V with the usual thresholds: dip 900, swell 1100, interruption 50 and hysteresis 20 thousandths
+abbrev usual : Limits
+usual = limits_of (record { udin_mv = 230_000; dip = 900; swell = 1100; interruption = 50; hysteresis = 20 })
+
+-- channel 1 at 1200 Hz and 50 Hz, from a second after noon of 1 March 2024
+abbrev recorded : List ℤ → Recorded
+recorded samples = record { t0 = pos (1_709_294_401 * 10 ^ 9); rate = 1_200_000_000; lf = 50; numbers = 1 ∷ []; reference = 0; samples = samples ∷ [] }
+
+-- what a result computes by
+unfoldable computed : Recorded → Limits → List Item
+unfolding sequential items_under all_events limits_of class_of is_touched event_from extents event_over events basic_spans windows window_between windows_over root_in isqrt mean_square rms rule_of first_boundary next_boundary boundaries cycle_boundaries first_of first_between successors put_in_order in_order numbers_from sine_count sampled square_count
+computed r limits = sequential r limits
+
+-- a sine in 552 samples has two basic intervals, and no event
+pub two_intervals : sequential (recorded (sampled sine_count 32_500 552)) usual
+    ≡ item.Basic 1 24 264 10 229_805_362 false ∷ item.Basic 1 264 504 10 229_805_362 false ∷ []
+unfolding computed
+two_intervals = refl
+
+-- the crossing at place 504 counts only where it has a sample
+pub crossing_without_sample : (sequential (recorded (sampled sine_count 32_500 504)) usual ≡ item.Basic 1 24 264 10 229_805_362 false ∷ [])
+    × (sequential (recorded (sampled sine_count 32_500 505)) usual
+    ≡ item.Basic 1 24 264 10 229_805_362 false ∷ item.Basic 1 264 504 10 229_805_362 false ∷ [])
+unfolding computed
+crossing_without_sample = (refl, refl)
+
+-- no samples, no items
+pub empty_recording : sequential (recorded []) usual ≡ []
+unfolding computed
+empty_recording = refl
+
+-- a dip over two basic intervals flags both, also the one that was measured before it ended
+pub halved_half_cycles : sequential (recorded (sampled (replaced 264 312 (λ i. halved (sine_count i)) sine_count) 32_500 552)) usual
+    ≡ item.Basic 1 24 264 10 229_805_362 true ∷ item.Dip 1 252 336 114_896_273 false ∷ item.Basic 1 264 504 10 211_869_380 true ∷ []
+unfolding computed
+halved_half_cycles = refl
+
+-- the square of 11,500 counts at 0.02 V, with one cycle of other counts and others again after it
+abbrev stepped : ℕ → ℕ → List ℤ
+stepped low after = sampled (replaced 264 288 (square_count 24 0 low) (replaced 288 552 (square_count 24 0 after) (square_count 24 0 11_500))) 20_000 552
+
+-- no dip at the threshold itself; one below it, until a value is the threshold and the hysteresis
+pub threshold_edges : (sequential (recorded (stepped 10_350 11_500)) usual
+    ≡ item.Basic 1 24 264 10 230_000_000 false ∷ item.Basic 1 264 504 10 227_804_521 false ∷ [])
+    × (sequential (recorded (stepped 10_349 10_580)) usual
+    ≡ item.Basic 1 24 264 10 230_000_000 false ∷ item.Dip 1 264 312 206_980_000 false ∷ item.Basic 1 264 504 10 211_142_549 true ∷ [])
+unfolding computed
+threshold_edges = (refl, refl)
+
+-- no crossings: intervals of silence, all flagged by a dip and an interruption that are open at the end
+pub all_zero : sequential (recorded (replicate 1200 (pos 0))) usual
+    ≡ item.Basic 1 0 240 10 0 true ∷ item.Basic 1 240 480 10 0 true ∷ item.Basic 1 480 720 10 0 true ∷ item.Basic 1 720 960 10 0 true
+    ∷ item.Dip 1 0 1200 0 true ∷ item.Interruption 1 0 1200 0 true ∷ []
+unfolding computed
+all_zero = refl
