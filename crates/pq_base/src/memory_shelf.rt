@@ -145,6 +145,7 @@ impl Shelf for MemShelf {
             return Ok(false);
         }
         if self.fails.contains(&call) {
+            // No file is opened then.
             self.done = content(&self.files, self.at).len();
             self.faults = self.faults.saturating_add(1);
             return Err(Failed);
