@@ -1,5 +1,5 @@
 -- One more condition on a list: which event it ends, and what is known then of the event that is open.
-use Rattle.std.proofs.Common.{◌≡◌, ℕ, zero, suc, ◌+◌, ◌-◌, ◌<◌, ◌≤◌, Bool, true, false, cond, List, [], ◌∷◌, ◌++◌, length, map, filter, find, Option, Some, None, is_some, option_map, option_to_list, option_and_then, slice_get, slice_range, drop, take, refl, sym, ◌∙◌, ap, subst, arith}
+use Rattle.std.proofs.Common.{◌≡◌, ℕ, zero, suc, ◌+◌, ◌-◌, ◌<◌, ◌≤◌, Bool, true, false, cond, List, [], ◌∷◌, ◌++◌, length, map, filter, find, Option, Some, None, is_some, option_map, option_to_list, slice_get, slice_range, drop, take, refl, sym, ◌∙◌, ap, subst, arith}
 use Rattle.std.specs.Option.{option_map_or}
 use Rattle.std.specs.Option.{option_or}
 use Rattle.std.proofs.lemmas.List.Folds.{find-append}
@@ -10,9 +10,9 @@ use Rattle.event_detect.specs.declared.kind.Kind.{Kind}
 use Rattle.event_detect.specs.VoltageEvent.{Condition, Extent, event_from, extents, event_over, events, ended_events, open_start, seen_value}
 use Rattle.pq_words.specs.First.{first_of, first_between}
 use Rattle.pq_words.specs.Successors.{successors}
-use Rattle.event_detect.specs.Detector.{Running, open_at, with_seen}
+use Rattle.event_detect.specs.Detector.{Running, open_at}
 use Rattle.event_detect.proofs.ExtentLaws.{extent, add_place, extents_push, get_left, get_last}
-use Rattle.event_detect.proofs.WorstLaws.{value_of, channel_of, known, known_push, known_first}
+use Rattle.event_detect.proofs.WorstLaws.{value_of, channel_of, known, known_push, known_first, with_seen}
 
 -- ---- what was seen, on the longer list
 

@@ -1,13 +1,14 @@
 -- A detector gives the events of the whole list.
-use Rattle.std.proofs.Common.{◌≡◌, ℕ, zero, suc, Bool, true, false, cond, List, [], ◌∷◌, ◌++◌, flat_map, Option, Some, None, option_to_list, slice_get, refl, sym, ◌∙◌, ap, subst, append_assoc}
+use Rattle.std.proofs.Common.{◌≡◌, ℕ, zero, suc, Bool, true, false, List, [], ◌∷◌, ◌++◌, flat_map, Option, Some, None, option_to_list, slice_get, refl, sym, ◌∙◌, ap, subst, append_assoc}
 use Rattle.std.proofs.Math.Seq.{append_snoc}
 use Rattle.std.proofs.lemmas.List.{append-nil, append_cancel_left}
 use Rattle.event_detect.specs.declared.event.Event.{Event}
 use Rattle.event_detect.specs.declared.kind.Kind.{Kind}
 use Rattle.event_detect.specs.VoltageEvent.{Condition, event_from, extents, events, ended_events}
-use Rattle.event_detect.specs.Detector.{Running, Watch, HasSeen, LeavesOpen}
+use Rattle.event_detect.specs.Detector.{Running, Watch, HasSeen}
 use Rattle.event_detect.specs.WholeList.{StepsOver, GivesEvents}
 use Rattle.event_detect.proofs.EventLaws.{open_event, ended_event, ended_events_push}
+use Rattle.event_detect.proofs.DetectorLaws.{seen_some}
 use Rattle.pq_words.specs.First.{first_of, first_between}
 use Rattle.pq_words.specs.Successors.{successors}
 
@@ -90,6 +91,7 @@ at_place w last fed (d ∷ cs) (a ∷ more) (suc k) c event seen steps here ther
 
 pub gives_events : GivesEvents
 gives_events = record {
+  some = seen_some;
   all = λ n cs first last answers final seen steps left.
       let after = gone first last [] cs answers seen steps in
       let ends : events last.kind n cs ≡ ended_events last.kind cs ++ option_to_list final = left cs after.seen in

@@ -1,5 +1,5 @@
 -- The worst of some values and the first that has it, found one after another.
-use Rattle.std.proofs.Common.{◌≡◌, ◌⊎◌, ℕ, ◌<◌, ◌≤◌, min, max, Bool, true, false, cond, ◌==◌, List, [], ◌∷◌, ◌++◌, map, fold, find, Option, Some, None, refl, sym, ◌∙◌, ap, subst, arith}
+use Rattle.std.proofs.Common.{◌≡◌, ℕ, Bool, true, false, cond, ◌==◌, List, [], ◌∷◌, ◌++◌, map, fold, find, Option, Some, None, refl, sym, ◌∙◌, ap, subst, arith}
 use Rattle.std.proofs.lemmas.Bool.{eqb-false, ne_eqb, eq-eqb}
 use Rattle.std.proofs.lemmas.Bool.Decides.{nat_tests}
 use Rattle.std.proofs.lemmas.List.Sums.{fold-append}
@@ -7,7 +7,7 @@ use Rattle.event_detect.specs.declared.kind.Kind.{Kind}
 use Rattle.event_detect.specs.declared.kind.Kind.TheVariants.{Dip, Swell, Interruption}
 use Rattle.event_detect.specs.VoltageEvent.{Condition, worse, worst, seen_value}
 use Rattle.std.specs.Option.{option_map_or}
-use Rattle.event_detect.specs.Detector.{Running, is_worse, with_seen}
+use Rattle.event_detect.specs.Detector.{Running, is_worse}
 
 -- ---- the order of a kind
 
@@ -101,6 +101,10 @@ found kind x (y ∷ ys) = at (is_worse kind (seen_value y) (seen_value x)) refl 
     at false is least later = found_before kind x y ys (first_worst kind x ys) (has_value (first_worst kind x ys) x) refl is least later
 
 -- ---- what is known of the event over what was seen of it
+
+-- after one more window: the first of equally bad values stays
+abbrev pub with_seen : Kind → Running → ℕ → ℕ → Running
+with_seen kind r channel value = cond (is_worse kind value r.value) (record { start = r.start; channel = channel; value = value }) r
 
 abbrev pub value_of : Kind → List Condition → ℕ
 value_of kind seen = worst kind (map seen_value seen)

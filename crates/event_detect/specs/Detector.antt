@@ -1,5 +1,5 @@
--- What contracts see of a detector, over the list of the conditions that it was fed.
-use Rattle.std.specs.Prelude.{◌≡◌, ℕ, Bool, true, nat_lt, if◌then◌else◌, List, [], ◌∷◌, ◌++◌, Option, option_map}
+-- What contracts see of a detector, over the conditions that it was fed.
+use Rattle.std.specs.Prelude.{◌≡◌, ℕ, Bool, true, nat_lt, List, [], ◌∷◌, ◌++◌, Option, option_map}
 use Rattle.event_detect.specs.declared.event.Event.{Event}
 use Rattle.event_detect.specs.declared.kind.Kind.{Kind}
 use Rattle.event_detect.specs.declared.kind.Kind.TheVariants.{Dip, Swell, Interruption}
@@ -50,7 +50,3 @@ abbrev pub is_worse : Kind → ℕ → ℕ → Bool
 is_worse Dip a b = nat_lt a b
 is_worse Swell a b = nat_lt b a
 is_worse Interruption a b = nat_lt a b
-
--- what is known after one more window: the first of equally bad values stays
-abbrev pub with_seen : Kind → Running → ℕ → ℕ → Running
-with_seen kind r channel value = if is_worse kind value r.value then record { start = r.start; channel = channel; value = value } else r

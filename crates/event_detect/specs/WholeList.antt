@@ -12,6 +12,8 @@ StepsOver w [] (a ∷ more) last = ⊥
 StepsOver w (c ∷ cs) [] last = ⊥
 
 pub record GivesEvents : Type 0 where
+  -- there is no detector that has seen no list at all
+  pub some : (w : Watch) → (fed : List Condition) × HasSeen w fed
   -- stepped over any list and finished, a detector that had seen nothing has given the events of the list
   pub all : (n : ℕ) (conditions : List Condition) (first last : Watch) (answers : List (Option Event)) (final : Option Event)
       → HasSeen first [] → StepsOver first conditions answers last → LeavesOpen last n final

@@ -58,7 +58,7 @@ fn is_worse(kind: Kind, value: u64, than: u64) -> bool
     }
 }
 
-/// Finds the events of one kind among the windows that it is fed.
+/// Finds the events of one kind among the windows that it is fed (IEC 61000-4-30:2015, 5.4, 5.5).
 #[derive(Drop)]
 pub struct Detector {
     kind: Kind,
@@ -86,12 +86,12 @@ impl Detector {
         }
     }
 
-    /// Feeds the next place: whether an event would begin there, whether one would end there, and
-    /// the window that is seen there with the position of its channel. Gives the event that ends
-    /// there.
+    /// Feeds the next window, with the position of its channel: whether an event would begin there,
+    /// and whether one would end there, but not both. Gives the event that ends there. An event
+    /// begins where none runs, and ends at a later window than the one that began it.
     pub fn step(&mut self, begins: bool, ends: bool, channel: u32, window: Window) -> Option<Event>
         requires { IsTrue begins → ¬ IsTrue ends }
-        ensures succeeds { IsSome result ↔ IsSome self.old.running × IsTrue ends }
+        ensures succeeds { IsSome result ↔ (IsSome self.old.running × IsTrue ends) }
         ensures value { Ends self.old (condition begins ends channel window) result }
         ensures seen { SeesMore self.old self.new (condition begins ends channel window) }
         ensures same { self.new.kind ≡ self.old.kind }
@@ -115,8 +115,8 @@ impl Detector {
         None
     }
 
-    /// Ends the list at place `n`: gives the event that is open there. The detector has then seen
-    /// nothing.
+    /// Ends the list at place `n`, and gives the event that is open there. The detector has then
+    /// seen nothing.
     pub fn finish(&mut self, n: u64) -> Option<Event>
         ensures succeeds { IsSome result ↔ IsSome self.old.running }
         ensures value { LeavesOpen self.old n result }
@@ -127,7 +127,7 @@ impl Detector {
         Some(running.event(self.kind, n, true))
     }
 
-    /// The start of the running event.
+    /// The start of the event that runs.
     pub fn running(&self) -> Option<u64>
         ensures value { result ≡ option_map (λ r. r.start) self.now.running }
         ensures start { StartsOpen self.now result }
