@@ -1,11 +1,10 @@
 -- Good settings put the thresholds in order, and no value both begins and ends an event of one kind.
-use Rattle.std.proofs.Common.{◌≡◌, ℕ, ◌+◌, ◌-◌, ◌*◌, ◌<◌, ◌≤◌, true, IsTrue, arith}
+use Rattle.std.proofs.Common.{ℕ, ◌+◌, ◌-◌, ◌*◌, ◌<◌, ◌≤◌, arith}
 use Rattle.std.proofs.lemmas.Bool.{ltb-true, leb-true}
 use Rattle.std.proofs.Math.Nat.{mul-lt-mul_of_pos_left}
 use Rattle.event_detect.specs.declared.limits.Settings.{Settings}
 use Rattle.event_detect.specs.declared.limits.Limits.{Limits}
 use Rattle.event_detect.specs.Threshold.{IsInRange, IsSound, IsInOrder, IsApart, limits_of, class_of}
-
 
 -- more thousandths are more microvolts
 more : (udin a b : ℕ) → 1 ≤ udin → a < b → udin * a < udin * b

@@ -1,9 +1,10 @@
--- What contracts see of a detector, over the list of the conditions that it was fed.
-use Rattle.std.specs.Prelude.{◌≡◌, ℕ, Bool, true, List, [], ◌∷◌, ◌++◌, flat_map, Option, option_map, option_to_list}
+-- What contracts see of a detector, over the conditions that it was fed.
+use Rattle.std.specs.Prelude.{◌≡◌, ℕ, Bool, true, nat_lt, List, [], ◌∷◌, ◌++◌, Option, option_map}
 use Rattle.event_detect.specs.declared.event.Event.{Event}
 use Rattle.event_detect.specs.declared.kind.Kind.{Kind}
+use Rattle.event_detect.specs.declared.kind.Kind.TheVariants.{Dip, Swell, Interruption}
 use Rattle.event_detect.specs.declared.window.Window.{Window}
-use Rattle.event_detect.specs.VoltageEvent.{Condition, EndsAtLast, IsLeftOpen}
+use Rattle.event_detect.specs.VoltageEvent.{Condition, EndsAtLast, IsLeftOpen, open_start}
 
 -- what is known of an event that runs: its start, its worst value so far and the channel that had this first
 pub record Running : Type 0 where
@@ -39,3 +40,13 @@ SeesMore old new c = (fed : List Condition) → HasSeen old fed → HasSeen new 
 -- whatever a detector has seen, this event is left open at n, or none
 abbrev pub LeavesOpen : Watch → ℕ → Option Event → Type 0
 LeavesOpen watch n answer = (fed : List Condition) → HasSeen watch fed → IsLeftOpen watch.kind n fed answer
+
+-- whatever a detector has seen, this is where the event begins that is left open, or none is
+abbrev pub StartsOpen : Watch → Option ℕ → Type 0
+StartsOpen watch answer = (fed : List Condition) → HasSeen watch fed → answer ≡ open_start watch.kind fed
+
+-- value a is worse than b: less for a dip and an interruption, greater for a swell
+abbrev pub is_worse : Kind → ℕ → ℕ → Bool
+is_worse Dip a b = nat_lt a b
+is_worse Swell a b = nat_lt b a
+is_worse Interruption a b = nat_lt a b

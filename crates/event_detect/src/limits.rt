@@ -64,8 +64,8 @@ impl Limits {
     ///
     /// # Errors
     ///
-    /// [`BadLimits`] where there is no hysteresis, an interruption would end in the dip's reach, or
-    /// a dip would end in the swell's.
+    /// [`BadLimits`] where there is no hysteresis, where an interruption would not end below the dip
+    /// threshold, or where a dip would not end below the end of a swell.
     pub fn of(settings: &Settings) -> Result<Limits, BadLimits>
         requires { IsInRange settings.now }
         ensures succeeds { IsOk result ↔ IsSound settings.now }
@@ -87,7 +87,7 @@ impl Limits {
     }
 }
 
-/// How a value in microvolts stands to the thresholds.
+/// How a value in microvolts stands to the thresholds (IEC 61000-4-30:2015, 5.4, 5.5).
 pub fn classify(limits: &Limits, value: u64) -> Class
     ensures { result ≡ class_of limits.now value }
 {

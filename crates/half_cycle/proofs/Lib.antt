@@ -1,0 +1,3 @@
+mod StandardFacts
+pub mod WindowLaws
+pub mod WindowBounds

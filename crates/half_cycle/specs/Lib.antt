@@ -1,0 +1,2 @@
+pub mod HalfCycleWindow
+pub mod Windows
