@@ -52,14 +52,6 @@ one_root x r s a b =
 pub isqrt_only : (x r : ℕ) → x < 2 ^ 128 → IsGreatestRoot x r → r ≡ isqrt x
 isqrt_only x r small h = one_root x r (isqrt x) h (isqrt_is x small)
 
--- a number whose square is at most 10^26 is at most 10^13
-pub side_within : (n x : ℕ) → n * n ≤ x → x ≤ 10 ^ 26 → n ≤ 10 ^ 13
-side_within n x fits small =
-    elim (cases_lt (10 ^ 13) n) [
-      | inl above ↦ absurd (omega (arith, squares_rise (10 ^ 13 + 1) n (omega (arith, above)), fits, small))
-      | inr within ↦ omega (arith, within)
-    ]
-
 -- the square of a number that is at most 10^13 is at most 10^26
 pub square_within : (n : ℕ) → n ≤ 10 ^ 13 → n * n ≤ 10 ^ 26
 square_within n h = squares_rise n (10 ^ 13) h

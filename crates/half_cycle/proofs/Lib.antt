@@ -1,2 +1,3 @@
 mod StandardFacts
 pub mod WindowLaws
+pub mod WindowBounds

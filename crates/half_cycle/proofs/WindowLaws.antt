@@ -15,10 +15,10 @@ module _ (s : List ℤ) (rule : Rule) (given : IsRule rule) where
   listed m o = successors (boundary_after s rule) m o
 
   -- a boundary from a place on, within the signal
-  abbrev Lies : ℕ → Option Boundary → Type 0
+  abbrev pub Lies : ℕ → Option Boundary → Type 0
   Lies low o = IfSome o (λ b. (low ≤ b.place) × (b.place < length s))
 
-  after_lies : (b : Boundary) → Lies (b.place + 1) (boundary_after s rule b)
+  pub after_lies : (b : Boundary) → Lies (b.place + 1) (boundary_after s rule b)
   after_lies b = at (next_boundary s rule b.place (not b.rising)) (next_within s rule b.place (not b.rising) given)
     where
       at : (o : Option ℕ) → IfSome o (λ k. (b.place < k) × (k < length s)) → Lies (b.place + 1) (option_map (boundary_at (not b.rising)) o)

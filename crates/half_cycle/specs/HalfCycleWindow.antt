@@ -1,5 +1,5 @@
 -- The subject: half-cycle windows, Urms(1/2): the root over one cycle, begun anew at each half-cycle (IEC 61000-4-30:2015, 5.4).
-use Rattle.std.specs.Prelude.{ℕ, List, map, drop, ℤ, Option, slice_get, slice_range}
+use Rattle.std.specs.Prelude.{ℕ, List, map, drop, ℤ, slice_range}
 use Rattle.std.specs.List.{zip}
 use Rattle.event_detect.specs.declared.window.Window.{Window}
 use Rattle.zero_cross.specs.declared.rule.Rule.{Rule}
@@ -17,7 +17,3 @@ windows_over s places = map (λ p. window_between s p.0 p.1) (zip places (drop 2
 -- the windows of a channel, in order: those over its boundaries (5.4)
 unfoldable pub windows : List ℤ → Rule → List Window
 windows s rule = windows_over s (boundary_places s rule)
-
--- window k, or None past the last
-abbrev pub window_at : List ℤ → Rule → ℕ → Option Window
-window_at s rule k = slice_get (windows s rule) k

@@ -1,5 +1,5 @@
 -- What contracts see of `Windows`: the list of the windows that are left.
-use Rattle.std.specs.Prelude.{◌≡◌, ℕ, ◌^◌, ◌<◌, ◌≤◌, not, List, [], length, map, ℤ, Option, None, Some, All, IfSome}
+use Rattle.std.specs.Prelude.{◌≡◌, ◌^◌, ◌<◌, ◌≤◌, not, List, [], length, map, ℤ, Option, None, Some, All, IfSome}
 use Rattle.half_cycle.specs.declared.begun.Begun.{Begun}
 use Rattle.half_cycle.specs.HalfCycleWindow.{windows_over}
 use Rattle.event_detect.specs.declared.window.Window.{Window}

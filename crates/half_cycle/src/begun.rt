@@ -9,14 +9,14 @@ use zero_cross::{Rule, first, next};
 // The boundary that begins a window and the boundary after it; whether the first counts as rising,
 // as the boundary that ends the window then does too.
 #[derive(Clone, Copy)]
-pub struct Begun {
-    pub start: u64,
-    pub middle: u64,
-    pub rising: bool,
+pub(crate) struct Begun {
+    pub(crate) start: u64,
+    pub(crate) middle: u64,
+    pub(crate) rising: bool,
 }
 
 // The first window, where there are two boundaries.
-pub fn begin(samples: &[i64], rule: &Rule) -> Option<Begun>
+pub(crate) fn begin(samples: &[i64], rule: &Rule) -> Option<Begun>
     requires { IsRule rule.now }
     ensures value { windows_left samples.now rule.now result ≡ windows samples.now rule.now }
     ensures begun { IfSome result (IsBegun samples.now rule.now) }

@@ -4,6 +4,6 @@
 pub use windows::Windows;
 
 mod begun;
-mod windows;
 #[cfg(test)]
 mod tests;
+mod windows;

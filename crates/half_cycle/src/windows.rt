@@ -78,6 +78,7 @@ impl<'a> Iterator for Windows<'a> {
 }
 
 // The window from a place up to another.
+#[tactic(auto, unfolding(crate::specs::HalfCycleWindow::window_between))]
 fn window(samples: &[i64], start: u64, end: u64) -> Window
     requires some { start < end }
     requires inside { end ≤ length samples.now }

@@ -32,13 +32,13 @@ impl Model for MemShelf {
     ghost Value = { MemoryShelf };
 
     ghost view = { λ a. record {
-        files = map shelved a.files.items;
-        fails = a.fails.items;
-        piece = a.piece;
-        asked = name_at (map shelved a.files.items) a.at;
-        rest = drop a.done (content_at (map shelved a.files.items) a.at);
-        calls = a.calls;
-        faults = a.faults;
+      files = map shelved a.files.items;
+      fails = a.fails.items;
+      piece = a.piece;
+      asked = name_at (map shelved a.files.items) a.at;
+      rest = drop a.done (content_at (map shelved a.files.items) a.at);
+      calls = a.calls;
+      faults = a.faults;
     } };
 
     ghost invariant = { λ a. 0 < a.piece };
@@ -49,7 +49,15 @@ impl MemShelf {
     /// `fails` lists, counted together from 0, fail; a read gives at most `piece` bytes.
     pub fn new(files: Vec<(String, Vec<u8>)>, fails: Vec<u64>, piece: u64) -> MemShelf
         requires { 0 < piece }
-        ensures { result ≡ record { files = map shelved files.items; fails = fails.items; piece = piece; asked = None; rest = []; calls = 0; faults = 0 } }
+        ensures { result ≡ record {
+          files = map shelved files.items;
+          fails = fails.items;
+          piece = piece;
+          asked = None;
+          rest = [];
+          calls = 0;
+          faults = 0;
+        } }
     {
         let at = files.len();
         MemShelf {
@@ -121,7 +129,12 @@ impl Shelf for MemShelf {
         ensures told { self.new.asked ≡ option_map (λ _. name.now) (file_named self.old.files name.now) }
         ensures calls { self.new.calls ≡ next_count self.old.calls }
         ensures counted { self.new.faults ≡ (if is_ok result then self.old.faults else next_count self.old.faults) }
-        ensures same { self.new ≡ record self.old { asked = self.new.asked; rest = self.new.rest; calls = self.new.calls; faults = self.new.faults } }
+        ensures same { self.new ≡ record self.old {
+          asked = self.new.asked;
+          rest = self.new.rest;
+          calls = self.new.calls;
+          faults = self.new.faults;
+        } }
     {
         let call = self.calls;
         self.calls = call.saturating_add(1);
@@ -132,6 +145,7 @@ impl Shelf for MemShelf {
             return Ok(false);
         }
         if self.fails.contains(&call) {
+            // No file is opened then.
             self.done = content(&self.files, self.at).len();
             self.faults = self.faults.saturating_add(1);
             return Err(Failed);

@@ -24,7 +24,14 @@ impl Model for MemSink {
 
     ghost Value = { MemorySink };
 
-    ghost view = { λ a. record { taken = a.bytes.items; room = a.room; fails = a.fails.items; piece = a.piece; calls = a.calls; faults = a.faults } };
+    ghost view = { λ a. record {
+      taken = a.bytes.items;
+      room = a.room;
+      fails = a.fails.items;
+      piece = a.piece;
+      calls = a.calls;
+      faults = a.faults;
+    } };
 
     ghost invariant = { λ a. (a.room ≤ vec_capacity a.bytes) × (vec_len a.bytes ≤ a.room) × (0 < a.piece) };
 }
@@ -39,7 +46,14 @@ impl MemSink {
         piece: u64,
     ) -> Result<MemSink, OutOfMemory>
         requires { 0 < piece }
-        ensures { IfOk result (λ sink. sink ≡ record { taken = []; room = room; fails = fails.items; piece = piece; calls = 0; faults = 0 }) }
+        ensures { IfOk result (λ sink. sink ≡ record {
+          taken = [];
+          room = room;
+          fails = fails.items;
+          piece = piece;
+          calls = 0;
+          faults = 0;
+        }) }
     {
         let room = room as usize;
         let Ok(bytes) = Vec::with_capacity(alloc, room) else {

@@ -10,7 +10,11 @@ fn file(alloc: Global, name: &str, bytes: &[u8]) -> Result<(String, Vec<u8>), Al
 
 // Seven bytes and, under the same name, two others; and an empty file. At most three bytes a read.
 fn shelf(alloc: Global, fails: u64) -> Result<MemShelf, AllocError> {
-    let files = vec![in alloc; file(alloc, "a", b"abcdefg")?, file(alloc, "b", b"")?, file(alloc, "a", b"zz")?]?;
+    let files = vec![in alloc;
+        file(alloc, "a", b"abcdefg")?,
+        file(alloc, "b", b"")?,
+        file(alloc, "a", b"zz")?,
+    ]?;
     Ok(MemShelf::new(files, vec![in alloc; fails]?, 3))
 }
 
@@ -47,7 +51,11 @@ fn failing_calls_in_memory(rt: HostRuntime) -> Result<(), Fail> {
         let mut shelf = shelf(alloc, fails)?;
         let found = read_all(alloc, &mut shelf, name, limit);
         let found = found.as_ref().map(|bytes| bytes.as_slice());
-        assert_eq!(rt; found, expected.as_ref().map(|bytes| *bytes), "{name} {limit} {fails}");
+        assert_eq!(rt;
+            found,
+            expected.as_ref().map(|bytes| *bytes),
+            "{name} {limit} {fails}"
+        );
         assert_eq!(rt; shelf.faults(), faults, "{name} {limit} {fails}");
     }
     for (room, fails, bytes, expected, taken, faults) in WRITES {
@@ -68,7 +76,10 @@ fn real_files_and_output(rt: HostRuntime) -> Result<(), Fail> {
     let mut piece = [1; 4];
     assert_eq!(rt; shelf.read(&mut piece), Ok(0));
     assert_eq!(rt; shelf.open("no such folder/no such file"), Ok(false));
-    assert_eq!(rt; read_all(alloc, &mut shelf, "/dev/zero", 200_000), Err(ReadAll::Over));
+    assert_eq!(rt;
+        read_all(alloc, &mut shelf, "/dev/zero", 200_000),
+        Err(ReadAll::Over)
+    );
     assert_eq!(rt; read_all(alloc, &mut shelf, "/dev/null", 0)?.len(), 0);
     assert_eq!(rt; shelf.faults(), 0);
     // A directory is opened, and its first read is refused.

@@ -3,5 +3,6 @@ pub mod CutLemmas
 pub mod NumberLemmas
 pub mod SampleLemmas
 pub mod StageLemmas
+mod StandardFacts
 pub mod StrictCfgLemmas
 pub mod WalkLemmas

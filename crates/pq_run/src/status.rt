@@ -6,14 +6,14 @@ use pq_base::{OutOfMemory, Text};
 use std::alloc::{AllocError, Global};
 
 /// What the profile does not support.
-#[derive(Clone, Copy)]
+#[derive(Clone, Copy, Debug, PartialEq, Eq)]
 pub enum Unsupported {
     /// A cfg of a form that is read by a later version.
     NotYet,
 }
 
 /// What has a limit.
-#[derive(Clone, Copy)]
+#[derive(Clone, Copy, Debug, PartialEq, Eq)]
 pub enum Quantity {
     /// 1,048,576 bytes of a cfg.
     CfgBytes,
@@ -22,7 +22,7 @@ pub enum Quantity {
 }
 
 /// The first fault of a dat.
-#[derive(Clone, Copy)]
+#[derive(Clone, Copy, Debug, PartialEq, Eq)]
 pub enum DatFault {
     /// The bytes of record `at`, counted from 1, are not all there.
     Short { at: u64 },
@@ -31,7 +31,7 @@ pub enum DatFault {
 }
 
 /// The answer of a top call.
-#[derive(Clone, Copy)]
+#[derive(Clone, Copy, Debug, PartialEq, Eq)]
 pub enum Status {
     /// The whole output was taken.
     Done,

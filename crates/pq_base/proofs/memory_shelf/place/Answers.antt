@@ -1,7 +1,6 @@
-use Rattle.std.proofs.Common.{arith, map, ◌≡◌}
+use Rattle.std.proofs.Common.{arith}
 use Rattle.std.proofs.lemmas.Grind.{common_steps}
-use Rattle.pq_base.specs.MemoryShelf.{shelved}
-use Rattle.pq_base.proofs.Places.{place_of, found_there, file_there, name_there}
+use Rattle.pq_base.proofs.Places.{found_there, file_there, name_there}
 use Rattle.pq_base.proofs.memory_shelf.place.Goals as goal
 
 -- the first that has the name

@@ -1,4 +1,4 @@
-use Rattle.std.proofs.Common.{rules, ap, sym, subst, ◌∙◌, ◌<◌}
+use Rattle.std.proofs.Common.{rules, ap, sym, ◌∙◌}
 use Rattle.pq_base.proofs.Places.{read_piece}
 use Rattle.pq_base.proofs.memory_shelf.MemShelfShelf.read.Goals as goal
 

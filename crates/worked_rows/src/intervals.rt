@@ -1,0 +1,193 @@
+// The command `intervals` on worked recordings, and on shelves and sinks that fail.
+use crate::signal::{sine_dat, strict_cfg};
+use pq_base::{MemShelf, MemSink};
+use pq_run::{DatFault, Quantity, Status, Unsupported, still};
+use std::alloc::{AllocError, Global};
+use std::test::Fail;
+
+const HEADER: &str = "kind,channel,start,end,from,to,tick,value,count,mark\n";
+
+const ONE_ROW: &str =
+    "kind,channel,start,end,from,to,tick,value,count,mark\nbasic,1,24,264,,,,229805362,10,\n";
+
+const TWO_ROWS: &str =
+    "kind,channel,start,end,from,to,tick,value,count,mark\nbasic,1,24,264,,,,229805362,10,\nbasic,1,264,504,,,,229805362,10,\n";
+
+// How the outside behaves: which calls fail, and how large a piece is.
+#[derive(Clone, Copy)]
+struct Outside<'a> {
+    read_fails: &'a [u64],
+    read_piece: u64,
+    write_fails: &'a [u64],
+    write_piece: u64,
+}
+
+const WHOLE: Outside<'static> = Outside {
+    read_fails: &[],
+    read_piece: 1_000_000,
+    write_fails: &[],
+    write_piece: 1_000_000,
+};
+
+// The status of a run, and the bytes that were taken.
+#[derive(Drop)]
+struct Outcome {
+    status: Status,
+    taken: Vec<u8>,
+}
+
+fn words(alloc: Global) -> Result<Vec<String>, AllocError> {
+    let mut words = Vec::new(alloc);
+    for word in ["intervals", "--udin", "230000", "a.cfg", "a.dat"] {
+        words.push(String::from_str(alloc, word)?)?;
+    }
+    Ok(words)
+}
+
+fn run(
+    alloc: Global,
+    cfg: &[u8],
+    dat: Option<&[u8]>,
+    outside: Outside<'_>,
+) -> Result<Outcome, Fail> {
+    let mut files = vec![in alloc; (String::from_str(alloc, "a.cfg")?, cfg.to_vec(alloc)?)]?;
+    if let Some(dat) = dat {
+        files.push((String::from_str(alloc, "a.dat")?, dat.to_vec(alloc)?))?;
+    }
+    let read_fails = outside.read_fails.to_vec(alloc)?;
+    let write_fails = outside.write_fails.to_vec(alloc)?;
+    let mut shelf = MemShelf::new(files, read_fails, outside.read_piece.max(1));
+    let room = 100_000;
+    let mut sink = MemSink::new(alloc, room, write_fails, outside.write_piece.max(1))?;
+    let status = still(alloc, &words(alloc)?, &mut shelf, &mut sink);
+    let taken = sink.taken().to_vec(alloc)?;
+    Ok(Outcome { status, taken })
+}
+
+// Recordings of the sine by their number of samples, in pieces of every size.
+#[test]
+fn recordings_of_the_sine(rt: HostRuntime) -> Result<(), Fail> {
+    let alloc = rt.alloc();
+    for (n, text) in [
+        (0, HEADER),
+        (504, ONE_ROW),
+        (505, TWO_ROWS),
+        (552, TWO_ROWS),
+    ] {
+        let cfg = strict_cfg(alloc, n)?;
+        let dat = sine_dat(alloc, n)?;
+        for piece in [1, 100, 1_000_000] {
+            let outside = Outside {
+                read_piece: piece,
+                write_piece: piece,
+                ..WHOLE
+            };
+            let ran = run(alloc, &cfg, Some(&dat), outside)?;
+            assert_eq!(rt; ran.status, Status::Done, "{n} samples");
+            assert_eq!(rt; ran.taken.as_slice(), text.as_bytes(), "{n} samples");
+        }
+    }
+    Ok(())
+}
+
+// Files that are refused: nothing is written.
+#[test]
+fn refused_files(rt: HostRuntime) -> Result<(), Fail> {
+    let alloc = rt.alloc();
+    let cfg = strict_cfg(alloc, 552)?;
+    let whole = sine_dat(alloc, 552)?;
+    let mut long = sine_dat(alloc, 552)?;
+    long.push(0)?;
+    let cut = &whole[..whole.len().saturating_sub(1)];
+    let not_yet = Status::Unsupported {
+        what: Unsupported::NotYet,
+        line: 0,
+    };
+    let cut_off = Status::DatFault {
+        kind: DatFault::Short { at: 552 },
+    };
+    let left_over = Status::DatFault {
+        kind: DatFault::Long { bytes: 1 },
+    };
+    let over = Status::Limit {
+        what: Quantity::CfgBytes,
+        line: 0,
+    };
+    let large = vec![in alloc; 0u8; 1_048_577]?;
+    for (cfg, dat, status) in [
+        (cfg.as_slice(), Some(cut), cut_off),
+        (cfg.as_slice(), Some(long.as_slice()), left_over),
+        (cfg.as_slice(), None, Status::NoFile { file: 2 }),
+        (b"demo".as_slice(), None, not_yet),
+        (large.as_slice(), None, over),
+    ] {
+        let ran = run(alloc, cfg, dat, WHOLE)?;
+        assert_eq!(rt; ran.status, status);
+        assert_eq!(rt; ran.taken.len(), 0);
+    }
+    Ok(())
+}
+
+// A write that fails leaves a front; each call of the shelf that fails leaves nothing.
+#[test]
+fn failing_calls(rt: HostRuntime) -> Result<(), Fail> {
+    let alloc = rt.alloc();
+    let cfg = strict_cfg(alloc, 552)?;
+    let dat = sine_dat(alloc, 552)?;
+    let second_write = Outside {
+        write_fails: &[1],
+        write_piece: 100,
+        ..WHOLE
+    };
+    let ran = run(alloc, &cfg, Some(&dat), second_write)?;
+    assert_eq!(rt; ran.status, Status::WriteFault { faults: 1 });
+    assert_eq!(rt; ran.taken.as_slice(), &TWO_ROWS.as_bytes()[..100]);
+
+    // open 0, read 1, read 2 at the end, open 3, read 4, read 5 at the end
+    for call in 0..6 {
+        let outside = Outside {
+            read_fails: &[call],
+            ..WHOLE
+        };
+        let ran = run(alloc, &cfg, Some(&dat), outside)?;
+        assert_eq!(rt; ran.status, Status::ReadFault { faults: 1 }, "call {call}");
+        assert_eq!(rt; ran.taken.len(), 0, "call {call}");
+    }
+    let ran = run(
+        alloc,
+        &cfg,
+        Some(&dat),
+        Outside {
+            read_fails: &[6],
+            ..WHOLE
+        },
+    )?;
+    assert_eq!(rt; ran.status, Status::Done);
+    assert_eq!(rt; ran.taken.as_slice(), TWO_ROWS.as_bytes());
+    Ok(())
+}
+
+// Words that are no command: nothing is asked for.
+#[test]
+fn words_that_are_not_understood(rt: HostRuntime) -> Result<(), Fail> {
+    let alloc = rt.alloc();
+    for said in [
+        ["intervals", "--udin", "0", "a.cfg", "a.dat"],
+        ["intervals", "--udin", "1000000001", "a.cfg", "a.dat"],
+        ["intervals", "--udin", "00000000001", "a.cfg", "a.dat"],
+        ["intervals", "--udin", "+1", "a.cfg", "a.dat"],
+        ["analyse", "--udin", "1", "a.cfg", "a.dat"],
+        ["intervals", "a.cfg", "a.dat", "--udin", "1"],
+    ] {
+        let mut words = Vec::new(alloc);
+        for word in said {
+            words.push(String::from_str(alloc, word)?)?;
+        }
+        let mut shelf = MemShelf::new(Vec::new(alloc), vec![in alloc; 0]?, 1);
+        let mut sink = MemSink::new(alloc, 100, Vec::new(alloc), 1)?;
+        let status = still(alloc, &words, &mut shelf, &mut sink);
+        assert_eq!(rt; status, Status::Usage);
+        assert_eq!(rt; sink.taken().len(), 0);
+    }
+    Ok(())
+}
