@@ -1,5 +1,5 @@
 -- Basic intervals, one after another.
-use Rattle.std.proofs.Common.{◌≡◌, ℕ, ◌+◌, ◌-◌, ◌*◌, ◌/◌, ◌<◌, ◌==◌, Bool, true, false, if◌then◌else◌, List, [], ◌∷◌, ◌++◌, length, map, ◌≤◌, sym, ◌∙◌, ap, subst, arith}
+use Rattle.std.proofs.Common.{◌≡◌, ℕ, ◌+◌, ◌-◌, ◌*◌, ◌/◌, ◌<◌, ◌==◌, Bool, true, false, if◌then◌else◌, List, [], ◌∷◌, ◌++◌, length, map, ◌≤◌, sym, ◌∙◌, ap, subst, arith, append_assoc}
 use Rattle.std.proofs.Math.Nat.{mul-le-mul_left}
 use Rattle.std.proofs.lemmas.List.{map-append}
 use Rattle.pq_sequence.specs.BasicInterval.{AreBoundaries, basic_span, cycles_of}
@@ -8,10 +8,22 @@ use Rattle.pq_words.proofs.StepLaws.{map_below_push}
 use Rattle.pq_words.specs.Steps.{numbers_below}
 
 -- what is made of the first n intervals, and of one more
-pub one_more : {X : Type 0} (f : Span → X) (cycles : ℕ) (boundaries : List ℕ) (n : ℕ)
+one_more : {X : Type 0} (f : Span → X) (cycles : ℕ) (boundaries : List ℕ) (n : ℕ)
     → map f (map (basic_span cycles boundaries) (numbers_below (n + 1))) ≡ map f (map (basic_span cycles boundaries) (numbers_below n)) ++ f (basic_span cycles boundaries n) ∷ []
 one_more f cycles boundaries n =
     ap (map f) (map_below_push (basic_span cycles boundaries) n) ∙ map-append f (map (basic_span cycles boundaries) (numbers_below n)) (basic_span cycles boundaries n ∷ [])
+
+-- a list with what is made of the first n intervals, and with what is made of one more
+pub one_pushed : {X : Type 0} (f : Span → X) (cycles : ℕ) (boundaries : List ℕ) (n : ℕ) (x : X) (span : Span) (old before after : List X)
+    → before ≡ old ++ map f (map (basic_span cycles boundaries) (numbers_below n)) → x ≡ f span → span ≡ basic_span cycles boundaries n → after ≡ before ++ x ∷ []
+    → after ≡ old ++ map f (map (basic_span cycles boundaries) (numbers_below (n + 1)))
+one_pushed f cycles boundaries n x span old before after so_far made here pushed =
+    let spans = map (basic_span cycles boundaries) (numbers_below n) in
+    pushed
+    ∙ ap (λ xs. xs ++ x ∷ []) so_far
+    ∙ ap (λ x. (old ++ map f spans) ++ x ∷ []) (made ∙ ap f here)
+    ∙ append_assoc old (map f spans) (f (basic_span cycles boundaries n) ∷ [])
+    ∙ ap (λ xs. old ++ xs) (sym (one_more f cycles boundaries n))
 
 -- an interval has cycles
 pub some_cycles : (lf cycles : ℕ) → cycles ≡ cycles_of lf → 0 < cycles

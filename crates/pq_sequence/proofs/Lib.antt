@@ -1,5 +1,6 @@
 pub mod BasicLemmas
 pub mod ConditionLemmas
+pub mod CutLaws
 pub mod PlaceLaws
 pub mod ResultLaws
 pub mod WalkLemmas

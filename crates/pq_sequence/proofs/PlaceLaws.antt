@@ -1,4 +1,4 @@
--- Boundaries, windows, events and basic intervals lie in the recording.
+-- Boundaries, events and basic intervals lie in the recording.
 use Rattle.std.proofs.Common.{◌≡◌, ℕ, zero, suc, ◌+◌, ◌<◌, ◌≤◌, Bool, true, false, cond, not, ◌==◌, List, [], ◌∷◌, ◌++◌, length, map, filter, find, drop, take, Option, None, Some, option_map, option_and_then, slice_get, slice_index, slice_index_or, IfSome, All, ℤ, refl, sym, ◌∙◌, ap, subst, arith}
 use Rattle.std.specs.List.{zip, slice_range}
 use Rattle.std.specs.Option.{option_map_or}
@@ -9,14 +9,13 @@ use Rattle.event_detect.specs.declared.kind.Kind.TheVariants.{Dip, Swell, Interr
 use Rattle.event_detect.specs.declared.limits.Limits.{Limits}
 use Rattle.event_detect.specs.declared.window.Window.{Window}
 use Rattle.event_detect.specs.VoltageEvent.{Condition, Extent, event_over, events, seen_during, seen_value, worst}
-use Rattle.half_cycle.specs.HalfCycleWindow.{window_between, windows_over, windows}
 use Rattle.zero_cross.specs.declared.rule.Rule.{Rule}
 use Rattle.zero_cross.specs.Boundary.{IsRule, Boundary, boundary_at, boundary_after, boundaries, boundary_places, cycle_boundaries, first_boundary, next_boundary}
 use Rattle.zero_cross.proofs.BoundaryLaws.{first_within, next_within}
 use Rattle.pq_words.specs.Successors.{successors}
 use Rattle.pq_sequence.specs.MeasuredRecording.{all_events, condition_at, conditions}
 
--- ---- boundaries and windows
+-- ---- boundaries
 
 module _ (s : List ℤ) (rule : Rule) (given : IsRule rule) where
   abbrev Lies : Boundary → Type 0
@@ -49,22 +48,6 @@ module _ (s : List ℤ) (rule : Rule) (given : IsRule rule) where
   pub cycles_lie : All (λ k. k < length s) (cycle_boundaries s rule)
   unfolding cycle_boundaries
   cycles_lie = All-map (λ k. k < length s) (λ b. b.place) (filter (λ b. b.rising) (boundaries s rule)) (All-filter (λ b. b.rising) Lies (boundaries s rule) boundaries_lie)
-
-  zipped : (xs ys : List ℕ) → All (λ k. k < length s) xs → All (λ k. k < length s) ys → All (λ p. (p.0 < length s) × (p.1 < length s)) (zip xs ys)
-  zipped [] ys h g = All-nil (λ p. (p.0 < length s) × (p.1 < length s))
-  zipped (x ∷ xs) [] h g = All-nil (λ p. (p.0 < length s) × (p.1 < length s))
-  zipped (x ∷ xs) (y ∷ ys) h g =
-      let P : ℕ → Type 0 = λ k. k < length s in
-      All-cons (λ p. (p.0 < length s) × (p.1 < length s)) (x, y) (zip xs ys) (All-head P x xs h, All-head P y ys g) (zipped xs ys (All-tail P x xs h) (All-tail P y ys g))
-
-  -- windows lie in the signal
-  pub windows_lie : All (λ w. (w.start < length s) × (w.end < length s)) (windows s rule)
-  unfolding windows windows_over window_between
-  windows_lie =
-      let places = boundary_places s rule in
-      let P : ℕ → Type 0 = λ k. k < length s in
-      let lie : All P places = All-map P (λ (b : Boundary). b.place) (boundaries s rule) boundaries_lie in
-      All-map (λ (w : Window). (w.start < length s) × (w.end < length s)) (λ (p : ℕ × ℕ). window_between s p.0 p.1) (zip places (drop 2 places)) (zipped places (drop 2 places) lie (All-drop P 2 places lie))
 
 -- ---- events
 
@@ -123,12 +106,12 @@ events_placed : (kind : Kind) (n : ℕ) (cs : List Condition) → All (IsSeen n)
 unfolding events
 events_placed kind n cs h = All-map (IsPlaced n) (event_over kind n cs) _ (λ k d inside. over_placed kind n cs (slice_index_or _ k d) h)
 
-told_seen : (kind : Kind) (limits : Limits) (n : ℕ) (ws : List Window) → All (λ w. (w.start < n) × (w.end < n)) ws → All (IsSeen n) (conditions kind limits ws)
+told_seen : (kind : Kind) (limits : Limits) (n : ℕ) (ws : List Window) → All (λ w. (w.start < w.end) × (w.end < n)) ws → All (IsSeen n) (conditions kind limits ws)
 told_seen kind limits n ws lie =
-    All-map (IsSeen n) (condition_at kind limits) ws (λ k d inside. let both = lie k d inside in (omega (arith, both.0), omega (arith, both.1), refl))
+    All-map (IsSeen n) (condition_at kind limits) ws (λ k d inside. let both = lie k d inside in (omega (arith, both.0, both.1), omega (arith, both.1), refl))
 
 -- all events over windows in the first n places are placed
-pub all_placed : (limits : Limits) (n : ℕ) (ws : List Window) → All (λ w. (w.start < n) × (w.end < n)) ws → All (IsPlaced n) (all_events limits n ws)
+pub all_placed : (limits : Limits) (n : ℕ) (ws : List Window) → All (λ w. (w.start < w.end) × (w.end < n)) ws → All (IsPlaced n) (all_events limits n ws)
 unfolding all_events
 all_placed limits n ws lie =
     let placed = λ (kind : Kind). events_placed kind n (conditions kind limits ws) (told_seen kind limits n ws lie) in

@@ -6,6 +6,7 @@ use Rattle.event_detect.specs.declared.event.Event.{Event}
 use Rattle.event_detect.specs.declared.kind.Kind.{Kind}
 use Rattle.event_detect.specs.declared.kind.Kind.TheVariants.{Dip, Swell, Interruption}
 use Rattle.event_detect.specs.declared.limits.Limits.{Limits}
+use Rattle.half_cycle.proofs.WindowBounds.{windows_lie}
 use Rattle.pq_base.specs.Recorded.{Recorded, IsRecording, sample_count, samples_at}
 use Rattle.pq_items.specs.declared.item.Item.{Item}
 use Rattle.pq_items.specs.ItemOrder.{item_cmp}
@@ -14,7 +15,7 @@ use Rattle.pq_sequence.specs.BasicInterval.{basic_span, basic_spans, cycles_of}
 use Rattle.pq_sequence.specs.MeasuredRecording.{recorded_events, recorded_rule, recorded_spans, recorded_windows, reference_cycles}
 use Rattle.pq_sequence.specs.SequentialResult.{all_items, basic_item, event_item, item_of_kind, items_under, number_of, sequential}
 use Rattle.pq_sequence.specs.declared.span.Span.{Span}
-use Rattle.pq_sequence.proofs.PlaceLaws.{IsPlaced, all_placed, cycles_lie, looked_up, windows_lie}
+use Rattle.pq_sequence.proofs.PlaceLaws.{IsPlaced, all_placed, cycles_lie, looked_up}
 use Rattle.pq_words.proofs.SortedLaws.{in_order_permutes}
 use Rattle.pq_words.specs.Steps.{numbers_below}
 use Rattle.zero_cross.specs.Boundary.{IsRule}

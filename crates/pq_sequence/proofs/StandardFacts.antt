@@ -1,5 +1,5 @@
 -- Worked recordings with their whole results, so that a wrong rule in the specs does not check.
-use Rattle.std.proofs.Common.{◌≡◌, ◌*◌, ◌^◌, ℕ, ℤ, List, [], ◌∷◌, replicate, true, false, refl, pos}
+use Rattle.std.proofs.Common.{◌≡◌, ◌*◌, ◌^◌, ℕ, ℤ, List, [], ◌∷◌, map, replicate, true, false, refl, pos}
 use Rattle.pq_base.specs.Recorded.{Recorded}
 use Rattle.event_detect.specs.declared.limits.Limits.{Limits}
 use Rattle.event_detect.specs.Threshold.{limits_of, class_of}
@@ -7,6 +7,7 @@ use Rattle.event_detect.specs.Flag.{is_touched}
 use Rattle.event_detect.specs.VoltageEvent.{event_from, extents, event_over, events}
 use Rattle.pq_items.specs.declared.item.Item.{Item}
 use Rattle.pq_items.specs.declared.item.Item.TheVariants as item
+use Rattle.pq_items.specs.ItemOrder.{item_end}
 use Rattle.pq_sequence.specs.BasicInterval.{basic_spans}
 use Rattle.pq_sequence.specs.MeasuredRecording.{all_events}
 use Rattle.pq_sequence.specs.SequentialResult.{items_under, sequential, cut, end_at}
@@ -50,9 +51,11 @@ pub empty_recording : sequential (recorded []) usual ≡ []
 unfolding computed
 empty_recording = refl
 
+abbrev halved_items : List Item
+halved_items = item.Basic 1 24 264 10 229_805_362 true ∷ item.Dip 1 252 336 114_896_273 false ∷ item.Basic 1 264 504 10 211_869_380 true ∷ []
+
 -- a dip over two basic intervals flags both, also the one that was measured before it ended
-pub halved_half_cycles : sequential (recorded (sampled (replaced 264 312 (λ i. halved (sine_count i)) sine_count) 32_500 552)) usual
-    ≡ item.Basic 1 24 264 10 229_805_362 true ∷ item.Dip 1 252 336 114_896_273 false ∷ item.Basic 1 264 504 10 211_869_380 true ∷ []
+pub halved_half_cycles : sequential (recorded (sampled (replaced 264 312 (λ i. halved (sine_count i)) sine_count) 32_500 552)) usual ≡ halved_items
 unfolding computed
 halved_half_cycles = refl
 
@@ -67,6 +70,19 @@ pub threshold_edges : (sequential (recorded (stepped 10_350 11_500)) usual
     ≡ item.Basic 1 24 264 10 230_000_000 false ∷ item.Dip 1 264 312 206_980_000 false ∷ item.Basic 1 264 504 10 211_142_549 true ∷ [])
 unfolding computed
 threshold_edges = (refl, refl)
+
+-- the same on the other side: no swell at the threshold; one above it, until a value is the threshold less the hysteresis
+pub swell_edges : (sequential (recorded (stepped 12_650 11_500)) usual
+    ≡ item.Basic 1 24 264 10 230_000_000 false ∷ item.Basic 1 264 504 10 232_402_452 false ∷ [])
+    × (sequential (recorded (stepped 12_651 12_420)) usual
+    ≡ item.Basic 1 24 264 10 230_000_000 false ∷ item.Swell 1 264 312 253_020_000 false ∷ item.Basic 1 264 504 10 248_865_859 true ∷ [])
+unfolding computed
+swell_edges = (refl, refl)
+
+-- the cut at place 335 ends before the dip that ends at 336; the ends are the items' own, and then the end of the recording
+pub halved_cut : (map item_end (cut 335 halved_items) ≡ 264 ∷ []) × (map item_end (cut 336 halved_items) ≡ 264 ∷ 336 ∷ []) × (map (end_at halved_items 552) (0 ∷ 1 ∷ 2 ∷ 3 ∷ []) ≡ 264 ∷ 336 ∷ 504 ∷ 552 ∷ [])
+unfolding cut
+halved_cut = (refl, refl, refl)
 
 -- no crossings: intervals of silence, all flagged by a dip and an interruption that are open at the end
 pub all_zero : sequential (recorded (replicate 1200 (pos 0))) usual

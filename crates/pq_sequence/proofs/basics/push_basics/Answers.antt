@@ -3,7 +3,7 @@ use Rattle.pq_base.specs.Recorded.{sample_count}
 use Rattle.pq_sequence.specs.BasicInterval.{basic_span, basic_spans, cycles_of}
 use Rattle.pq_sequence.specs.SequentialResult.{basic_item}
 use Rattle.pq_sequence.specs.declared.span.Span.{Span}
-use Rattle.pq_sequence.proofs.BasicLemmas.{last_inside, one_more, some_cycles, starts_before}
+use Rattle.pq_sequence.proofs.BasicLemmas.{last_inside, one_pushed, some_cycles, starts_before}
 use Rattle.pq_words.specs.Steps.{numbers_below, numbers_from}
 use Rattle.pq_sequence.proofs.basics.push_basics.Goals as goal
 
@@ -25,16 +25,8 @@ basic-requires-clause-some c =
 -- the intervals so far, and this one
 pub loop-position-preserved : goal.loop-position-preserved
 loop-position-preserved c =
-    let f = basic_item c.args.recording.now c.args.events.now 0 in
-    let cycles = c.cycles_of_line-cycles.result in
-    let boundaries = c.args.boundaries.now in
-    let k = c.loop-position.position in
-    let so_far = map f (map (basic_span cycles boundaries) (numbers_below k)) in
-    c.in_ok-push.ensures.items
-    ∙ ap (λ xs. xs ++ c.basic.result ∷ []) c.loop-position.invariant
-    ∙ ap (λ x. (c.args.items.now.items ++ so_far) ++ x ∷ []) (c.basic.ensures ∙ ap f c.span_at-span.ensures)
-    ∙ append_assoc c.args.items.now.items so_far (f (basic_span cycles boundaries k) ∷ [])
-    ∙ ap (λ xs. c.args.items.now.items ++ xs) (sym (one_more f cycles boundaries k))
+    one_pushed (basic_item c.args.recording.now c.args.events.now 0) c.cycles_of_line-cycles.result c.args.boundaries.now c.loop-position.position c.basic.result c.span_at-span.result
+    c.args.items.now.items c.loop-position.items.items c.push.new.self.items c.loop-position.invariant c.basic.ensures c.span_at-span.ensures c.in_ok-push.ensures.items
 
 -- all of them
 pub returns : goal.returns
