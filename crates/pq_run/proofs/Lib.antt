@@ -5,4 +5,3 @@ pub mod SampleLemmas
 pub mod StageLemmas
 mod StandardFacts
 pub mod StrictCfgLemmas
-pub mod WalkLemmas

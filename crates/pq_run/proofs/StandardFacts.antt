@@ -1,15 +1,20 @@
 -- Worked values, so that a wrong rule in the specs does not check.
-use Rattle.std.proofs.Common.{◌≡◌, ℕ, List, [], ◌∷◌, ◌++◌, map, length, replicate, refl, ap, arith, pos, negsuc, slice_index, Option, None, Some}
-use Rattle.std.specs.Prelude.{codes}
+use Rattle.std.proofs.Common.{◌≡◌, List, [], ◌∷◌, ◌++◌, map, length, replicate, refl, ap, arith, pos, negsuc, slice_index, true, false, Option, None, Some}
 use Rattle.std.specs.Fmt.{digits}
+use Rattle.std.specs.Prelude.{codes}
+use Rattle.event_detect.specs.Flag.{is_touched}
+use Rattle.event_detect.specs.Threshold.{class_of, limits_of}
+use Rattle.event_detect.specs.VoltageEvent.{event_from, event_over, events, extents}
 use Rattle.fixed_rms.specs.Root.{isqrt, mean_square, rms, root_in}
+use Rattle.half_cycle.specs.HalfCycleWindow.{window_between, windows, windows_over}
 use Rattle.pq_base.specs.Outside.{Files}
 use Rattle.pq_base.specs.Sample.{sample_of}
+use Rattle.pq_items.specs.declared.item.Item.TheVariants as item
 use Rattle.pq_run.proofs.StrictCfgLemmas.{strict_none}
-use Rattle.pq_run.specs.BasicInterval.{basics_between, basics_of}
 use Rattle.pq_run.specs.DatRecord.{count_at, dat_fault_of, samples_of, strict_recording}
 use Rattle.pq_run.specs.Intervals.{still_course}
-use Rattle.pq_run.specs.ReportText.{basic_row, header, report_text}
+use Rattle.pq_run.specs.ReportText.{header, item_row, report_text, rows_text}
+use Rattle.pq_run.specs.Settings.{usual_limits}
 use Rattle.pq_run.specs.StatusText.{code_of, sentence_of}
 use Rattle.pq_run.specs.StrictCfg.{strict_back, strict_cfg, strict_count, strict_front}
 use Rattle.pq_run.specs.Verdict.{Job, Refused, verdict}
@@ -18,8 +23,12 @@ use Rattle.pq_run.specs.declared.status.DatFault.TheVariants as dat_fault
 use Rattle.pq_run.specs.declared.status.Quantity.TheVariants as quantity
 use Rattle.pq_run.specs.declared.status.Status.TheVariants as status
 use Rattle.pq_run.specs.declared.status.Unsupported.TheVariants as unsupported
+use Rattle.pq_sequence.specs.BasicInterval.{basic_spans}
+use Rattle.pq_sequence.specs.MeasuredRecording.{all_events}
+use Rattle.pq_sequence.specs.SequentialResult.{items_under, sequential}
 use Rattle.pq_words.proofs.WorkedSignal.{sampled, sine_count}
 use Rattle.pq_words.specs.First.{first_between, first_of}
+use Rattle.pq_words.specs.Sorted.{in_order, put_in_order}
 use Rattle.pq_words.specs.Steps.{numbers_from}
 use Rattle.pq_words.specs.Successors.{successors}
 use Rattle.pq_words.specs.Text.{Text}
@@ -27,24 +36,18 @@ use Rattle.zero_cross.specs.Boundary.{boundaries, cycle_boundaries, first_bounda
 
 -- ---- the report
 
-abbrev sine_report : ℕ → Text
-sine_report n = report_text (strict_recording (sampled sine_count 32_500 n))
+-- rows of items by hand: a record is clear or flagged, an event closed or open
+pub rows : rows_text
+    (item.Basic 1 24 264 10 229805362 false ∷ item.Basic 12 264 504 12 211869380 true ∷ item.Dip 1 252 336 114896273 false ∷ item.Interruption 1 0 1200 0 true ∷ item.Swell 999 12 24 253000001 false ∷ [])
+    ≡ codes "kind,channel,start,end,from,to,tick,value,count,mark\nbasic,1,24,264,,,,229805362,10,clear\nbasic,12,264,504,,,,211869380,12,flagged\ndip,1,252,336,,,,114896273,0,closed\ninterruption,1,0,1200,,,,0,0,open\nswell,999,12,24,,,,253000001,0,closed\n"
+unfolding header item_row digits
+rows = refl
 
 -- two_intervals, to the byte
-pub two_intervals : sine_report 552
-    ≡ codes "kind,channel,start,end,from,to,tick,value,count,mark\nbasic,1,24,264,,,,229805362,10,\nbasic,1,264,504,,,,229805362,10,\n"
-unfolding report_text header basic_row basics_of basics_between cycle_boundaries boundaries successors first_boundary next_boundary rule_of first_between first_of sampled sine_count numbers_from rms mean_square isqrt root_in digits
+pub two_intervals : report_text (strict_recording (sampled sine_count 32_500 552)) (usual_limits 230000)
+    ≡ codes "kind,channel,start,end,from,to,tick,value,count,mark\nbasic,1,24,264,,,,229805362,10,clear\nbasic,1,264,504,,,,229805362,10,clear\n"
+unfolding report_text header item_row sequential in_order put_in_order items_under all_events events extents event_from event_over successors windows windows_over window_between class_of limits_of basic_spans is_touched cycle_boundaries boundaries first_boundary next_boundary rule_of first_between first_of sampled sine_count numbers_from rms mean_square isqrt root_in digits
 two_intervals = refl
-
--- crossing_without_sample: the second interval would end at place 504, which has no sample
-pub crossing_without_sample : (sine_report 504 ≡ codes "kind,channel,start,end,from,to,tick,value,count,mark\nbasic,1,24,264,,,,229805362,10,\n") × (sine_report 505 ≡ sine_report 552)
-unfolding report_text header basic_row basics_of basics_between cycle_boundaries boundaries successors first_boundary next_boundary rule_of first_between first_of sampled sine_count numbers_from rms mean_square isqrt root_in digits
-crossing_without_sample = (refl, refl)
-
--- empty_recording: the header alone
-pub empty_recording : sine_report 0 ≡ codes "kind,channel,start,end,from,to,tick,value,count,mark\n"
-unfolding report_text header basic_row basics_of basics_between cycle_boundaries boundaries successors first_boundary next_boundary rule_of first_between first_of sampled sine_count numbers_from rms mean_square isqrt root_in digits
-empty_recording = refl
 
 -- ---- the dat
 
@@ -95,7 +98,7 @@ verdicts = refl
 
 -- a strict cfg of no sample and an empty dat are a job: the header alone
 pub empty_job : verdict (still_course words) (files_with (strict_cfg 0) []) ≡ Some (Job (codes "kind,channel,start,end,from,to,tick,value,count,mark\n"))
-unfolding intervals_words strict_count strict_front strict_back first_between first_of digits dat_fault_of samples_of report_text header basics_of basics_between cycle_boundaries boundaries successors first_boundary rule_of numbers_from
+unfolding intervals_words strict_count strict_front strict_back first_between first_of digits dat_fault_of samples_of report_text header sequential in_order items_under all_events events extents event_from successors windows windows_over basic_spans cycle_boundaries boundaries first_boundary rule_of numbers_from
 empty_job = refl
 
 -- no file is needed for words that are not understood

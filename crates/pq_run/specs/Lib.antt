@@ -1,7 +1,7 @@
-pub mod BasicInterval
 pub mod DatRecord
 pub mod Intervals
 pub mod ReportText
+pub mod Settings
 pub mod StatusText
 pub mod StrictCfg
 pub mod TopCall

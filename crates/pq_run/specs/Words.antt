@@ -1,5 +1,5 @@
 -- The subject: the words of the command `intervals` (profile).
-use Rattle.std.specs.Prelude.{ℕ, ◌&&◌, nat_le, if◌then◌else◌, List, [], ◌∷◌, Option, None, Some, option_map, option_and_then, codes}
+use Rattle.std.specs.Prelude.{ℕ, ◌≤◌, ◌&&◌, nat_le, if◌then◌else◌, List, [], ◌∷◌, Option, None, Some, option_map, option_and_then, codes}
 use Rattle.std.specs.Str.{bytes_eq}
 use Rattle.pq_words.specs.Text.{Text, number}
 
@@ -9,7 +9,12 @@ pub record Words : Type 0 where
   pub cfg : Text
   pub dat : Text
 
--- a declared voltage in millivolts: a Number from 1 to 1,000,000,000
+-- a declared voltage is from 1 to 1,000,000,000 millivolts
+pub record IsVoltage (udin_mv : ℕ) : Type 0 where
+  pub least : 1 ≤ udin_mv
+  pub most : udin_mv ≤ 1000000000
+
+-- the declared voltage that a text writes: a Number in that range
 abbrev pub voltage_of : Text → Option ℕ
 voltage_of text = option_and_then (λ n. if nat_le 1 n && nat_le n 1000000000 then Some n else None) (number text)
 

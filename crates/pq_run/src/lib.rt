@@ -4,11 +4,10 @@
 pub use status::{DatFault, Quantity, Status, Unsupported, fault_text};
 pub use top_call::still;
 
-mod basic;
 mod dat;
-mod intervals;
 mod number;
 mod report;
+mod settings;
 mod status;
 mod strict_cfg;
 mod top_call;

@@ -4,12 +4,15 @@ ghost use Rattle.pq_base.specs.Outside.{Holds};
 ghost use Rattle.pq_run.specs.DatRecord.{record_bytes, samples_of, strict_recording};
 ghost use Rattle.pq_run.specs.Intervals.{counted_course, dat_course, files_course, still_course};
 ghost use Rattle.pq_run.specs.ReportText.{report_text};
+ghost use Rattle.pq_run.specs.Settings.{usual_limits};
 ghost use Rattle.pq_run.specs.TopCall.{IsTopCall, IsTopCallOnAnyShelf, IsTopCallOnAnySink};
+ghost use Rattle.pq_run.specs.Words.{IsVoltage};
 ghost use Rattle.pq_run.specs.declared.status.Status.TheVariants.{Limit, NoFile};
 ghost use Rattle.pq_words.specs.Text.{Text};
 ghost use Rattle.pq_run.specs.Verdict.{Asks, Course, Ends, Job, with_file};
 
 use crate::report::report;
+use crate::settings::usual_limits_of;
 use crate::status::{Quantity, Status, Unsupported};
 use crate::strict_cfg::sample_count;
 use crate::{dat, words};
@@ -31,10 +34,19 @@ pub fn still<K: Shelf, O: Sink>(
     shelf: &mut K,
     out: &mut O,
 ) -> Status
-    ensures { IsTopCall (still_course (map string_bytes words.now)) (record { files = K.files shelf.old; asked = K.asked shelf.new; reads_before = K.faults shelf.old; reads_after = K.faults shelf.new; taken_before = O.taken out.old; taken_after = O.taken out.new; writes_before = O.faults out.old; writes_after = O.faults out.new }) result }
+    ensures { IsTopCall (still_course (map string_bytes words.now)) (record {
+      files = K.files shelf.old;
+      asked = K.asked shelf.new;
+      reads_before = K.faults shelf.old;
+      reads_after = K.faults shelf.new;
+      taken_before = O.taken out.old;
+      taken_after = O.taken out.new;
+      writes_before = O.faults out.old;
+      writes_after = O.faults out.new;
+    }) result }
 {
     match words::intervals(words) {
-        Some(said) => intervals(alloc, said.cfg, said.dat, shelf, out),
+        Some(said) => intervals(alloc, said.udin_mv, said.cfg, said.dat, shelf, out),
         None => Status::Usage,
     }
 }
@@ -42,16 +54,27 @@ pub fn still<K: Shelf, O: Sink>(
 // The command `intervals`: the cfg, then the dat.
 fn intervals<K: Shelf, O: Sink>(
     alloc: Global,
+    udin_mv: u64,
     cfg: &str,
     dat: &str,
     shelf: &mut K,
     out: &mut O,
 ) -> Status
-    ensures { IsTopCall (files_course cfg.now dat.now) (record { files = K.files shelf.old; asked = K.asked shelf.new; reads_before = K.faults shelf.old; reads_after = K.faults shelf.new; taken_before = O.taken out.old; taken_after = O.taken out.new; writes_before = O.faults out.old; writes_after = O.faults out.new }) result }
+    requires { IsVoltage udin_mv }
+    ensures { IsTopCall (files_course udin_mv cfg.now dat.now) (record {
+      files = K.files shelf.old;
+      asked = K.asked shelf.new;
+      reads_before = K.faults shelf.old;
+      reads_after = K.faults shelf.new;
+      taken_before = O.taken out.old;
+      taken_after = O.taken out.new;
+      writes_before = O.faults out.old;
+      writes_after = O.faults out.new;
+    }) result }
 {
     match read_file(alloc, shelf, cfg, 1, CFG_BYTES, Quantity::CfgBytes) {
         Ok(bytes) => match sample_count(&bytes) {
-            Some(n) => intervals_of(alloc, n, dat, shelf, out),
+            Some(n) => intervals_of(alloc, udin_mv, n, dat, shelf, out),
             None => Status::Unsupported {
                 what: Unsupported::NotYet,
                 line: 0,
@@ -64,16 +87,27 @@ fn intervals<K: Shelf, O: Sink>(
 // The rest of the command, on a cfg of `n` samples.
 fn intervals_of<K: Shelf, O: Sink>(
     alloc: Global,
+    udin_mv: u64,
     n: u64,
     dat: &str,
     shelf: &mut K,
     out: &mut O,
 ) -> Status
-    requires { n ≤ 718800 }
-    ensures { IsTopCall (counted_course dat.now (Some n)) (record { files = K.files shelf.old; asked = K.asked shelf.new; reads_before = K.faults shelf.old; reads_after = K.faults shelf.new; taken_before = O.taken out.old; taken_after = O.taken out.new; writes_before = O.faults out.old; writes_after = O.faults out.new }) result }
+    requires voltage { IsVoltage udin_mv }
+    requires few { n ≤ 718800 }
+    ensures { IsTopCall (counted_course udin_mv dat.now (Some n)) (record {
+      files = K.files shelf.old;
+      asked = K.asked shelf.new;
+      reads_before = K.faults shelf.old;
+      reads_after = K.faults shelf.new;
+      taken_before = O.taken out.old;
+      taken_after = O.taken out.new;
+      writes_before = O.faults out.old;
+      writes_after = O.faults out.new;
+    }) result }
 {
     match read_file(alloc, shelf, dat, 2, DAT_BYTES, Quantity::DatBytes) {
-        Ok(bytes) => write_report(alloc, n, &bytes, out),
+        Ok(bytes) => write_report(alloc, udin_mv, n, &bytes, out),
         Err(status) => status,
     }
 }
@@ -105,28 +139,41 @@ fn read_file<K: Shelf>(
 }
 
 // The report of a dat of `n` records, where it is good.
-fn write_report<O: Sink>(alloc: Global, n: u64, dat: &[u8], out: &mut O) -> Status
-    requires { n ≤ 718800 }
-    ensures { IsTopCallOnAnyShelf (dat_course n dat.now) (O.taken out.old) (O.taken out.new) (O.faults out.old) (O.faults out.new) result }
+fn write_report<O: Sink>(
+    alloc: Global,
+    udin_mv: u64,
+    n: u64,
+    dat: &[u8],
+    out: &mut O,
+) -> Status
+    requires voltage { IsVoltage udin_mv }
+    requires few { n ≤ 718800 }
+    ensures { IsTopCallOnAnyShelf (dat_course udin_mv n dat.now) (O.taken out.old) (O.taken out.new) (O.faults out.old) (O.faults out.new) result }
 {
     if let Some(kind) = dat::fault(n, dat) {
         return Status::DatFault { kind };
     }
-    match report_of(alloc, n, dat) {
+    match report_of(alloc, udin_mv, n, dat) {
         Ok(text) => write_text(&text, out),
         Err(AllocError) => Status::OutOfMemory,
     }
 }
 
 // The text of the job on a good dat.
-fn report_of(alloc: Global, n: u64, dat: &[u8]) -> Result<Vec<u8>, AllocError>
+fn report_of(
+    alloc: Global,
+    udin_mv: u64,
+    n: u64,
+    dat: &[u8],
+) -> Result<Vec<u8>, AllocError>
+    requires voltage { IsVoltage udin_mv }
     requires few { n ≤ 718800 }
     requires whole { length dat.now ≡ record_bytes * n }
-    ensures { IfOk result (λ text. text.items ≡ report_text (strict_recording (samples_of n dat.now))) }
+    ensures { IfOk result (λ text. text.items ≡ report_text (strict_recording (samples_of n dat.now)) (usual_limits udin_mv)) }
 {
     let samples = dat::samples(alloc, n, dat)?;
     let recording = dat::recording(alloc, samples)?;
-    report(alloc, &recording)
+    report(alloc, &recording, &usual_limits_of(udin_mv))
 }
 
 fn write_text<O: Sink>(text: &[u8], out: &mut O) -> Status

@@ -1,6 +1,6 @@
 // The words of the command `intervals`.
-ghost use Rattle.std.specs.Prelude.{◌≡◌, MatchOption, None, Some, map, string_bytes};
-ghost use Rattle.pq_run.specs.Words.{intervals_words, voltage_of};
+ghost use Rattle.std.specs.Prelude.{◌≡◌, MatchOption, IfSome, None, Some, map, string_bytes};
+ghost use Rattle.pq_run.specs.Words.{IsVoltage, intervals_words, voltage_of};
 
 use crate::number::digits;
 
@@ -15,7 +15,8 @@ pub struct IntervalsWords<'a> {
 /// Reads `intervals --udin MV CFG DAT`; None for any other words.
 #[tactic(auto, unfolding(crate::specs::Words::intervals_words))]
 pub fn intervals<'a>(words: &'a [String]) -> Option<IntervalsWords<'a>>
-    ensures { MatchOption result (intervals_words (map string_bytes words.now) ≡ None) (λ said. intervals_words (map string_bytes words.now) ≡ Some (record { udin_mv = said.udin_mv; cfg = said.cfg.now; dat = said.dat.now })) }
+    ensures value { MatchOption result (intervals_words (map string_bytes words.now) ≡ None) (λ said. intervals_words (map string_bytes words.now) ≡ Some (record { udin_mv = said.udin_mv; cfg = said.cfg.now; dat = said.dat.now })) }
+    ensures within { IfSome result (λ said. IsVoltage said.udin_mv) }
 {
     let [command, option, mv, cfg, dat] = words else {
         return None;
@@ -33,7 +34,8 @@ pub fn intervals<'a>(words: &'a [String]) -> Option<IntervalsWords<'a>>
 
 // One to ten digits, from 1 to 1,000,000,000 millivolts.
 fn declared_voltage(text: &str) -> Option<u64>
-    ensures { result ≡ voltage_of text.now }
+    ensures value { result ≡ voltage_of text.now }
+    ensures within { IfSome result IsVoltage }
 {
     match digits(text.as_bytes(), 10) {
         Some(millivolts) if 1 <= millivolts && millivolts <= 1_000_000_000 => Some(millivolts),

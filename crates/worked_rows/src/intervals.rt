@@ -1,5 +1,5 @@
 // The command `intervals` on worked recordings, and on shelves and sinks that fail.
-use crate::signal::{sine_dat, strict_cfg};
+use crate::signal::{Signal, dat, strict_cfg};
 use pq_base::{MemShelf, MemSink};
 use pq_run::{DatFault, Quantity, Status, Unsupported, still};
 use std::alloc::{AllocError, Global};
@@ -8,10 +8,27 @@ use std::test::Fail;
 const HEADER: &str = "kind,channel,start,end,from,to,tick,value,count,mark\n";
 
 const ONE_ROW: &str =
-    "kind,channel,start,end,from,to,tick,value,count,mark\nbasic,1,24,264,,,,229805362,10,\n";
+    "kind,channel,start,end,from,to,tick,value,count,mark\nbasic,1,24,264,,,,229805362,10,clear\n";
 
 const TWO_ROWS: &str =
-    "kind,channel,start,end,from,to,tick,value,count,mark\nbasic,1,24,264,,,,229805362,10,\nbasic,1,264,504,,,,229805362,10,\n";
+    "kind,channel,start,end,from,to,tick,value,count,mark\nbasic,1,24,264,,,,229805362,10,clear\nbasic,1,264,504,,,,229805362,10,clear\n";
+
+// all_zero: a dip and an interruption from the first sample on, open at the end, touch every interval.
+const ALL_ZERO: &str = "kind,channel,start,end,from,to,tick,value,count,mark
+basic,1,0,240,,,,0,10,flagged
+basic,1,240,480,,,,0,10,flagged
+basic,1,480,720,,,,0,10,flagged
+basic,1,720,960,,,,0,10,flagged
+dip,1,0,1200,,,,0,0,open
+interruption,1,0,1200,,,,0,0,open
+";
+
+// halved_half_cycles: a dip over the seam of two intervals touches both.
+const HALVED: &str = "kind,channel,start,end,from,to,tick,value,count,mark
+basic,1,24,264,,,,229805362,10,flagged
+dip,1,252,336,,,,114896273,0,closed
+basic,1,264,504,,,,211869380,10,flagged
+";
 
 // How the outside behaves: which calls fail, and how large a piece is.
 #[derive(Clone, Copy)]
@@ -64,25 +81,27 @@ fn run(
     Ok(Outcome { status, taken })
 }
 
-// Recordings of the sine by their number of samples, in pieces of every size.
+// Recordings of worked signals, in pieces of every size.
 #[test]
-fn recordings_of_the_sine(rt: HostRuntime) -> Result<(), Fail> {
+fn worked_recordings(rt: HostRuntime) -> Result<(), Fail> {
     let alloc = rt.alloc();
-    for (n, text) in [
-        (0, HEADER),
-        (504, ONE_ROW),
-        (505, TWO_ROWS),
-        (552, TWO_ROWS),
+    for (signal, n, text) in [
+        (Signal::Sine, 0, HEADER),
+        (Signal::Sine, 504, ONE_ROW),
+        (Signal::Sine, 505, TWO_ROWS),
+        (Signal::Sine, 552, TWO_ROWS),
+        (Signal::Zero, 1200, ALL_ZERO),
+        (Signal::Halved, 552, HALVED),
     ] {
         let cfg = strict_cfg(alloc, n)?;
-        let dat = sine_dat(alloc, n)?;
+        let bytes = dat(alloc, signal, n)?;
         for piece in [1, 100, 1_000_000] {
             let outside = Outside {
                 read_piece: piece,
                 write_piece: piece,
                 ..WHOLE
             };
-            let ran = run(alloc, &cfg, Some(&dat), outside)?;
+            let ran = run(alloc, &cfg, Some(&bytes), outside)?;
             assert_eq!(rt; ran.status, Status::Done, "{n} samples");
             assert_eq!(rt; ran.taken.as_slice(), text.as_bytes(), "{n} samples");
         }
@@ -95,8 +114,8 @@ fn recordings_of_the_sine(rt: HostRuntime) -> Result<(), Fail> {
 fn refused_files(rt: HostRuntime) -> Result<(), Fail> {
     let alloc = rt.alloc();
     let cfg = strict_cfg(alloc, 552)?;
-    let whole = sine_dat(alloc, 552)?;
-    let mut long = sine_dat(alloc, 552)?;
+    let whole = dat(alloc, Signal::Sine, 552)?;
+    let mut long = dat(alloc, Signal::Sine, 552)?;
     long.push(0)?;
     let cut = &whole[..whole.len().saturating_sub(1)];
     let not_yet = Status::Unsupported {
@@ -133,13 +152,13 @@ fn refused_files(rt: HostRuntime) -> Result<(), Fail> {
 fn failing_calls(rt: HostRuntime) -> Result<(), Fail> {
     let alloc = rt.alloc();
     let cfg = strict_cfg(alloc, 552)?;
-    let dat = sine_dat(alloc, 552)?;
+    let bytes = dat(alloc, Signal::Sine, 552)?;
     let second_write = Outside {
         write_fails: &[1],
         write_piece: 100,
         ..WHOLE
     };
-    let ran = run(alloc, &cfg, Some(&dat), second_write)?;
+    let ran = run(alloc, &cfg, Some(&bytes), second_write)?;
     assert_eq!(rt; ran.status, Status::WriteFault { faults: 1 });
     assert_eq!(rt; ran.taken.as_slice(), &TWO_ROWS.as_bytes()[..100]);
 
@@ -149,14 +168,14 @@ fn failing_calls(rt: HostRuntime) -> Result<(), Fail> {
             read_fails: &[call],
             ..WHOLE
         };
-        let ran = run(alloc, &cfg, Some(&dat), outside)?;
+        let ran = run(alloc, &cfg, Some(&bytes), outside)?;
         assert_eq!(rt; ran.status, Status::ReadFault { faults: 1 }, "call {call}");
         assert_eq!(rt; ran.taken.len(), 0, "call {call}");
     }
     let ran = run(
         alloc,
         &cfg,
-        Some(&dat),
+        Some(&bytes),
         Outside {
             read_fails: &[6],
             ..WHOLE

@@ -15,13 +15,30 @@ pub fn strict_cfg(alloc: Global, n: u32) -> Result<Vec<u8>, AllocError> {
     Ok(text.into_bytes())
 }
 
-// n records of the sine, numbered from 1.
-pub fn sine_dat(alloc: Global, n: u32) -> Result<Vec<u8>, AllocError> {
+// What is recorded: a sine, no voltage, or a sine that is halved from place 264 to place 311.
+#[derive(Clone, Copy)]
+pub enum Signal {
+    Sine,
+    Zero,
+    Halved,
+}
+
+fn count(signal: Signal, i: u32) -> i16 {
+    let sine = SINE[(i % 24) as usize];
+    match signal {
+        Signal::Sine => sine,
+        Signal::Zero => 0,
+        Signal::Halved => { if 264 <= i && i < 312 { sine / 2 } else { sine } }
+    }
+}
+
+// n records of a signal, numbered from 1.
+pub fn dat(alloc: Global, signal: Signal, n: u32) -> Result<Vec<u8>, AllocError> {
     let mut dat = Vec::new(alloc);
     for i in 0..n {
         dat.extend_from_slice(&(i + 1).to_le_bytes())?;
         dat.extend_from_slice(&[0; 4])?;
-        dat.extend_from_slice(&SINE[(i % 24) as usize].to_le_bytes())?;
+        dat.extend_from_slice(&count(signal, i).to_le_bytes())?;
     }
     Ok(dat)
 }

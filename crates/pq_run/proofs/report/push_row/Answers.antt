@@ -1,8 +1,8 @@
 use Rattle.std.proofs.Common.{rules, append_assoc}
-use Rattle.pq_run.specs.ReportText.{basic_row}
+use Rattle.pq_run.specs.ReportText.{item_row}
 use Rattle.pq_run.proofs.report.push_row.Goals as goal
 
 -- one piece after another
 pub returns : goal.returns
-unfolding basic_row
+unfolding item_row
 returns c = search (rules, append_assoc)

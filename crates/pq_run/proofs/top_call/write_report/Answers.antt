@@ -15,5 +15,5 @@ returns-in-Ok g c =
     let faults = g.O.Sink.faults in
     let text = c.deref.ensures.value ∙ c.in-Ok.ensures in
     let written = subst (λ t. IsTopCallOnAnyShelf (Ends (Job t)) (taken c.args.out.now) (taken c.write_text.new.out) (faults c.args.out.now) (faults c.write_text.new.out) c.write_text.result) text c.write_text.ensures in
-    subst (λ fault. IsTopCallOnAnyShelf (judged_course c.args.n c.args.dat.now fault) (taken c.args.out.now) (taken c.write_text.new.out) (faults c.args.out.now) (faults c.write_text.new.out) c.write_text.result)
+    subst (λ fault. IsTopCallOnAnyShelf (judged_course c.args.udin_mv c.args.n c.args.dat.now fault) (taken c.args.out.now) (taken c.write_text.new.out) (faults c.args.out.now) (faults c.write_text.new.out) c.write_text.result)
     (sym c.in_default.is ∙ c.fault.ensures) written
