@@ -45,11 +45,7 @@ pub fn sequence(
 }
 
 // All items, kind by kind.
-fn all_items(
-    alloc: Global,
-    recording: &Recording,
-    limits: &Limits,
-) -> Result<Vec<Item>, AllocError>
+fn all_items(alloc: Global, recording: &Recording, limits: &Limits) -> Result<Vec<Item>, AllocError>
     requires one { length recording.now.numbers ≡ 1 }
     requires limits { IsInOrder limits.now }
     ensures value { IfOk result (λ items. items.items ≡ items_of_recording recording.now limits.now) }
