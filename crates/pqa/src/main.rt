@@ -3,14 +3,13 @@
 
 use pq_base::{FileShelf, OutSink};
 use pq_run::{Status, fault_text, still};
-use std::env;
-use std::io;
 use std::process::ExitCode;
 use std::rt::{Env, Files};
-use std::str;
+use std::{env, io, str};
 
 // The exit codes of a program that cannot get its words.
 const NO_MEMORY: u8 = 11;
+
 const NOT_UTF8: u8 = 1;
 
 fn main(rt: HostRuntime) -> ExitCode {
