@@ -1,6 +1,5 @@
 -- Boundaries, events and basic intervals lie in the recording.
-use Rattle.std.proofs.Common.{◌≡◌, ℕ, zero, suc, ◌+◌, ◌<◌, ◌≤◌, Bool, true, false, cond, not, ◌==◌, List, [], ◌∷◌, ◌++◌, length, map, filter, find, drop, take, Option, None, Some, option_map, option_and_then, slice_get, slice_index, slice_index_or, IfSome, All, ℤ, refl, sym, ◌∙◌, ap, subst, arith}
-use Rattle.std.specs.List.{zip, slice_range}
+use Rattle.std.proofs.Common.{◌≡◌, ℕ, zero, suc, ◌<◌, ◌≤◌, Bool, true, false, cond, not, ◌==◌, List, [], ◌∷◌, ◌++◌, length, map, filter, find, drop, Option, None, Some, option_map, option_and_then, slice_get, slice_index, slice_index_or, IfSome, All, ℤ, refl, arith}
 use Rattle.std.specs.Option.{option_map_or}
 use Rattle.std.proofs.lemmas.List.Elements.{All-append, All-cons, All-drop, All-filter, All-head, All-map, All-nil, All-tail, All-take}
 use Rattle.event_detect.specs.declared.event.Event.{Event}
@@ -10,7 +9,7 @@ use Rattle.event_detect.specs.declared.limits.Limits.{Limits}
 use Rattle.event_detect.specs.declared.window.Window.{Window}
 use Rattle.event_detect.specs.VoltageEvent.{Condition, Extent, event_over, events, seen_during, seen_value, worst}
 use Rattle.zero_cross.specs.declared.rule.Rule.{Rule}
-use Rattle.zero_cross.specs.Boundary.{IsRule, Boundary, boundary_at, boundary_after, boundaries, boundary_places, cycle_boundaries, first_boundary, next_boundary}
+use Rattle.zero_cross.specs.Boundary.{IsRule, Boundary, boundary_at, boundary_after, boundaries, cycle_boundaries, first_boundary, next_boundary}
 use Rattle.zero_cross.proofs.BoundaryLaws.{first_within, next_within}
 use Rattle.pq_words.specs.Successors.{successors}
 use Rattle.pq_sequence.specs.MeasuredRecording.{all_events, condition_at, conditions}

@@ -1,5 +1,5 @@
 -- The sequential result: its items, their range and its cuts.
-use Rattle.std.proofs.Common.{◌≡◌, ◌⊎◌, ℕ, ◌<◌, ◌≤◌, ◌==◌, ◌/◌, ◌-◌, nat_le, Bool, true, false, if◌then◌else◌, List, [], ◌∷◌, ◌++◌, length, map, All, slice_index, slice_index_or, refl, sym, ◌∙◌, ap, subst, arith, inl, inr, Less}
+use Rattle.std.proofs.Common.{◌≡◌, ◌⊎◌, ℕ, ◌<◌, ◌≤◌, ◌==◌, ◌/◌, ◌-◌, Bool, true, false, if◌then◌else◌, List, length, map, All, slice_index_or, refl, subst, arith, inl, inr}
 use Rattle.std.proofs.lemmas.List.Elements.{All-append, All-map, All-weaker}
 use Rattle.std.proofs.lemmas.List.Sorted.{All-permutation}
 use Rattle.event_detect.specs.declared.event.Event.{Event}
@@ -8,7 +8,6 @@ use Rattle.event_detect.specs.declared.kind.Kind.TheVariants.{Dip, Swell, Interr
 use Rattle.event_detect.specs.declared.limits.Limits.{Limits}
 use Rattle.half_cycle.proofs.WindowBounds.{windows_lie}
 use Rattle.pq_base.specs.Recorded.{Recorded, IsRecording, sample_count, samples_at}
-use Rattle.pq_items.specs.declared.item.Item.{Item}
 use Rattle.pq_items.specs.ItemOrder.{item_cmp}
 use Rattle.pq_items.specs.ItemRange.{IsItemInRange}
 use Rattle.pq_sequence.specs.BasicInterval.{basic_span, basic_spans, cycles_of}

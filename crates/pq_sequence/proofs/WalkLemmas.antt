@@ -1,12 +1,12 @@
 -- A walk from boundary to boundary: the cycle boundaries found so far, and those that are left.
-use Rattle.std.proofs.Common.{◌≡◌, ℕ, zero, suc, ◌+◌, ◌-◌, ◌<◌, ◌≤◌, Bool, true, false, not, List, [], ◌∷◌, ◌++◌, length, map, filter, Option, Some, None, option_map, ℤ, refl, sym, ◌∙◌, ap, subst, arith, if◌then◌else◌, append_assoc, append-nil}
+use Rattle.std.proofs.Common.{◌≡◌, ℕ, suc, ◌<◌, Bool, true, false, not, List, [], ◌∷◌, ◌++◌, length, map, filter, Option, Some, None, option_map, ℤ, refl, sym, ◌∙◌, ap, subst, arith, if◌then◌else◌, append_assoc, append-nil}
 use Rattle.std.proofs.lemmas.List.Elements.{All-push}
 use Rattle.std.proofs.lemmas.List.Quantifiers.{all_pairs_push}
 use Rattle.std.specs.List.{All, AllPairs}
 use Rattle.std.specs.Option.{IfSome}
 use Rattle.pq_sequence.specs.BasicInterval.{AreBoundaries}
 use Rattle.pq_words.specs.Successors.{successors}
-use Rattle.zero_cross.specs.Boundary.{Boundary, boundary_at, boundary_after, boundaries, cycle_boundaries, first_boundary, next_boundary}
+use Rattle.zero_cross.specs.Boundary.{boundary_at, boundary_after, boundaries, cycle_boundaries, first_boundary, next_boundary}
 use Rattle.zero_cross.specs.declared.rule.Rule.{Rule}
 
 -- the cycle boundaries among at most n boundaries from a place on

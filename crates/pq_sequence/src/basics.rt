@@ -30,7 +30,10 @@ pub fn push_basics(
 ) -> Result<(), AllocError>
     requires channel { 0 < length recording.now.numbers }
     requires boundaries { AreBoundaries boundaries.now (sample_count recording.now) }
-    ensures { OnOk result (items.new.items ≡ items.old.items ++ map (basic_item recording.now events.now 0) (basic_spans (cycles_of recording.now.lf) boundaries.now)) }
+    ensures { OnOk result
+        (items.new.items ≡ items.old.items
+        ++ map (basic_item recording.now events.now 0)
+        (basic_spans (cycles_of recording.now.lf) boundaries.now)) }
 {
     let cycles = cycles_of_line(recording.lf());
     for position in 0..basic_count(boundaries, cycles) {

@@ -6,9 +6,6 @@ ghost use Rattle.zero_cross.specs.Boundary.{IsRule, cycle_boundaries as cycle_pl
 use std::alloc::{AllocError, Global};
 use zero_cross::{Rule, first, next};
 
-// No cycle has fewer samples: a half cycle has at least 7.
-const LEAST_CYCLE: usize = 14;
-
 /// How many cycles a basic interval has: 10 at 50 Hz, 12 at 60 Hz.
 pub fn cycles_of_line(lf: u32) -> usize
     ensures { result ≡ cycles_of lf }
@@ -22,7 +19,7 @@ pub fn cycle_boundaries(alloc: Global, samples: &[i64], rule: &Rule) -> Result<V
     ensures value { IfOk result (λ found. found.items ≡ cycle_places samples.now rule.now) }
     ensures within { IfOk result (λ found. AreBoundaries found.items (length samples.now)) }
 {
-    let mut found = Vec::with_capacity(alloc, samples.len() / LEAST_CYCLE + 1)?;
+    let mut found = Vec::with_capacity(alloc, samples.len() / (2 * rule.lo as usize) + 1)?;
     let mut place = first(samples, rule);
     let mut rising = true;
     for _ in 0..samples.len() {

@@ -34,7 +34,9 @@ fn push_events(
     n: u64,
 ) -> Result<(), AllocError>
     requires { IsInOrder limits.now }
-    ensures { OnOk result (found.new.items ≡ found.old.items ++ events kind n (conditions kind limits.now windows.now)) }
+    ensures { OnOk result
+        (found.new.items ≡ found.old.items
+        ++ events kind n (conditions kind limits.now windows.now)) }
 {
     let mut detector = Detector::new(kind);
     for window in windows {

@@ -8,4 +8,6 @@ mod cycles;
 mod events;
 mod sequential;
 mod span;
+#[cfg(test)]
+mod tests;
 mod windows;

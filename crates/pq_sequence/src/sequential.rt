@@ -45,14 +45,11 @@ pub fn sequence(
 }
 
 // All items, kind by kind.
-fn all_items(
-    alloc: Global,
-    recording: &Recording,
-    limits: &Limits,
-) -> Result<Vec<Item>, AllocError>
+fn all_items(alloc: Global, recording: &Recording, limits: &Limits) -> Result<Vec<Item>, AllocError>
     requires one { length recording.now.numbers ≡ 1 }
     requires limits { IsInOrder limits.now }
-    ensures value { IfOk result (λ items. items.items ≡ items_of_recording recording.now limits.now) }
+    ensures value { IfOk result
+        (λ items. items.items ≡ items_of_recording recording.now limits.now) }
     ensures within { IfOk result (λ items. All IsItemInRange items.items) }
 {
     let events = recorded_events(alloc, recording, limits)?;
@@ -102,7 +99,8 @@ fn push_event_items(
     events: &[Event],
 ) -> Result<(), AllocError>
     requires { All (λ event. event.channel < length recording.now.numbers) events.now }
-    ensures { OnOk result (items.new.items ≡ items.old.items ++ map (event_item recording.now) events.now) }
+    ensures { OnOk result
+        (items.new.items ≡ items.old.items ++ map (event_item recording.now) events.now) }
 {
     for event in events {
         items.push(event_item(recording.number(event.channel), event))?;

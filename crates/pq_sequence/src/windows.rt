@@ -9,9 +9,6 @@ use half_cycle::Windows;
 use std::alloc::{AllocError, Global};
 use zero_cross::Rule;
 
-// Half a cycle has at least so many samples.
-const LEAST_HALF: usize = 7;
-
 /// The half-cycle windows of a channel, in order.
 pub fn all_windows(alloc: Global, samples: &[i64], rule: Rule) -> Result<Vec<Window>, AllocError>
     requires rule { IsRule rule }
@@ -19,7 +16,7 @@ pub fn all_windows(alloc: Global, samples: &[i64], rule: Rule) -> Result<Vec<Win
     requires quiet { All (IsWithin (10 ^ 13)) samples.now }
     ensures { IfOk result (λ found. found.items ≡ windows samples.now rule) }
 {
-    let mut found = Vec::with_capacity(alloc, samples.len() / LEAST_HALF + 1)?;
+    let mut found = Vec::with_capacity(alloc, samples.len() / rule.lo as usize + 1)?;
     for window in Windows::new(samples, rule) {
         found.push(window)?;
     }

@@ -1,4 +1,4 @@
-use Rattle.std.proofs.Common.{◌≡◌, ◌∙◌, ◌+◌, ◌*◌, ◌-◌, ◌/◌, ◌<◌, [], ◌∷◌, ◌++◌, length, map, ap, sym, subst, arith, append_assoc, append-nil, rules}
+use Rattle.std.proofs.Common.{◌≡◌, ◌∙◌, ◌+◌, ◌*◌, ◌-◌, ◌/◌, ◌<◌, ◌++◌, length, map, ap, sym, subst, arith, append-nil}
 use Rattle.pq_base.specs.Recorded.{sample_count}
 use Rattle.pq_sequence.specs.BasicInterval.{basic_span, basic_spans, cycles_of}
 use Rattle.pq_sequence.specs.SequentialResult.{basic_item}

@@ -1,7 +1,15 @@
-use Rattle.std.proofs.Common.{◌≡◌, ◌∙◌, ◌-◌, ◌+◌, [], ◌∷◌, ◌++◌, length, true, None, Some, ap, sym, subst, suc, arith}
+use Rattle.std.proofs.Common.{◌≡◌, ◌∙◌, ◌-◌, ◌+◌, ◌++◌, length, true, ap, subst, suc, arith}
 use Rattle.pq_sequence.proofs.WalkLemmas.{IsWalked, all_left, cycles_left, no_more_left, none_left, step_of_walk, walk_begun, whole_found, whole_kept}
+use Rattle.zero_cross.proofs.RuleLaws.{rule_is_near}
 use Rattle.zero_cross.specs.Boundary.{cycle_boundaries}
 use Rattle.pq_sequence.proofs.cycles.cycle_boundaries.Goals as goal
+
+-- half a cycle has samples, and not too many
+pub overflow_mul-rule : goal.overflow_mul-rule
+overflow_mul-rule c = let near = rule_is_near c.args.rule.now c.requires in omega (arith, near.below, near.above, near.near)
+
+pub nonzero_div-samples : goal.nonzero_div-samples
+nonzero_div-samples c = omega (arith, (rule_is_near c.args.rule.now c.requires).ahead)
 
 -- nothing is found yet, and all is left
 pub loop-init : goal.loop-init

@@ -1,8 +1,7 @@
-use Rattle.std.proofs.Common.{◌≡◌, ◌∙◌, ◌+◌, ◌<◌, [], ◌∷◌, ◌++◌, length, take, ap, sym, subst, arith, append_assoc, append-nil, option_to_list}
+use Rattle.std.proofs.Common.{◌∙◌, ◌++◌, take, ap, sym, subst, append-nil}
 use Rattle.event_detect.specs.Detector.{HasSeen}
-use Rattle.event_detect.specs.VoltageEvent.{ended_events}
 use Rattle.event_detect.specs.declared.window.Window.{Window}
-use Rattle.pq_sequence.specs.MeasuredRecording.{condition_at, conditions}
+use Rattle.pq_sequence.specs.MeasuredRecording.{conditions}
 use Rattle.pq_sequence.proofs.ConditionLemmas.{ended_more, none_ended, one_more}
 use Rattle.pq_sequence.proofs.events.push_events.Goals as goal
 

@@ -1,4 +1,4 @@
-use Rattle.std.proofs.Common.{◌≡◌, subst}
+use Rattle.std.proofs.Common.{subst}
 use Rattle.event_detect.specs.Detector.{Ends, SeesMore}
 use Rattle.event_detect.specs.VoltageEvent.{Condition}
 use Rattle.pq_sequence.proofs.ConditionLemmas.{never_both, told}

@@ -1,0 +1,10 @@
+use Rattle.std.proofs.Common.{◌≡◌, ◌^◌, length, All}
+use Rattle.pq_words.specs.Magnitude.{IsWithin}
+use Rattle.pq_sequence.proofs.tests.samples.Given as goal
+
+-- so many samples so far, none too large
+abbrev pub invariant-loop-place : goal.invariant-loop-place
+invariant-loop-place l = record {
+  count : length l.samples.items ≡ l.place;
+  quiet : All (IsWithin (10 ^ 13)) l.samples.items;
+}
