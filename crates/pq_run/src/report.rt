@@ -65,12 +65,7 @@ fn push_span(
     Ok(())
 }
 
-fn push_value(
-    text: &mut Vec<u8>,
-    value: u64,
-    count: u64,
-    mark: &str,
-) -> Result<(), AllocError>
+fn push_value(text: &mut Vec<u8>, value: u64, count: u64, mark: &str) -> Result<(), AllocError>
     ensures { OnOk result (text.new.items ≡ text.old.items ++ value_fields value count mark.now) }
 {
     push_number(text, value)?;

@@ -139,13 +139,7 @@ fn read_file<K: Shelf>(
 }
 
 // The report of a dat of `n` records, where it is good.
-fn write_report<O: Sink>(
-    alloc: Global,
-    udin_mv: u64,
-    n: u64,
-    dat: &[u8],
-    out: &mut O,
-) -> Status
+fn write_report<O: Sink>(alloc: Global, udin_mv: u64, n: u64, dat: &[u8], out: &mut O) -> Status
     requires voltage { IsVoltage udin_mv }
     requires few { n ≤ 718800 }
     ensures { IsTopCallOnAnyShelf (dat_course udin_mv n dat.now) (O.taken out.old) (O.taken out.new) (O.faults out.old) (O.faults out.new) result }
@@ -160,12 +154,7 @@ fn write_report<O: Sink>(
 }
 
 // The text of the job on a good dat.
-fn report_of(
-    alloc: Global,
-    udin_mv: u64,
-    n: u64,
-    dat: &[u8],
-) -> Result<Vec<u8>, AllocError>
+fn report_of(alloc: Global, udin_mv: u64, n: u64, dat: &[u8]) -> Result<Vec<u8>, AllocError>
     requires voltage { IsVoltage udin_mv }
     requires few { n ≤ 718800 }
     requires whole { length dat.now ≡ record_bytes * n }
