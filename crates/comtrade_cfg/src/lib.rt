@@ -1,0 +1,12 @@
+//! The cfg of a recording: reading, printing and the selection of channels.
+#![tactic(auto)]
+
+pub use cfg::{Analogue, Cfg, FileType, StatusLine, Zone};
+pub use fault::{CfgFault, Quantity, Unsupported};
+pub use selection::{SelectFault, Selection};
+
+mod cfg;
+mod fault;
+mod head;
+mod sampling;
+mod selection;
