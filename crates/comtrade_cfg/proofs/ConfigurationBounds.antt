@@ -1,0 +1,1 @@
+-- How large the parts of a configuration are that some text says.
