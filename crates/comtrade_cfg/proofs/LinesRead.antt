@@ -59,7 +59,8 @@ pub record LinesRead (start : Ahead) (c : Configuration) : Type 0 where
     zone = zone.0;
   } ≡ c
 
-same_ok : {A E : Type 0} {x y : A} → ◌≡◌ {A = Result A E} (Ok x) (Ok y) → x ≡ y
+-- two values that were given are one
+pub same_ok : {A E : Type 0} {x y : A} → ◌≡◌ {A = Result A E} (Ok x) (Ok y) → x ≡ y
 same_ok e = cc
 
 -- a step that found no fault, for what is shown of its value and of what came after it
