@@ -1,3 +1,4 @@
 pub mod LinesRead
 pub mod WrittenFacts
 pub mod ConfigurationBounds
+pub mod PrintLemmas

@@ -8,5 +8,7 @@ pub use selection::{SelectFault, Selection};
 mod cfg;
 mod fault;
 mod head;
+mod print_number;
+mod print_stamp;
 mod sampling;
 mod selection;

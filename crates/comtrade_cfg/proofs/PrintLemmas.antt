@@ -1,0 +1,64 @@
+-- A canonical text put together from its pieces.
+use Rattle.std.proofs.Common.{◌≡◌, ℕ, ◌+◌, ◌-◌, ◌/◌, ◌%◌, ◌==◌, Bool, true, false, cond, ◌&&◌, ℤ, List, [], ◌∷◌, ◌++◌, map, take, drop, length, append_assoc, append-nil, refl, sym, ap, ◌∙◌, arith}
+use Rattle.std.specs.List.{flat_map, ends_with}
+use Rattle.std.specs.Prelude.{nat_eq}
+use Rattle.std.proofs.lemmas.Bool.{eq-eqb, ne_eqb, eqb-true, eqb-false}
+use Rattle.pq_words.specs.Text.{Text, padded}
+use Rattle.pq_time.specs.Printed.{printed_moment, date_shown, time_shown, since_1600, hms_text}
+use Rattle.comtrade_cfg.specs.Canonical.{date_text, time_text, fraction_text}
+
+-- five pieces, one after another
+five_pieces : (old p q r s u : Text) → ((((old ++ p) ++ q) ++ r) ++ s) ++ u ≡ old ++ (p ++ (q ++ (r ++ (s ++ u))))
+five_pieces old p q r s u = simp append_assoc
+
+-- the day, the month and the year of a printed moment
+pub date_pieces : (old a b c d e shown : Text) (t : ℤ) → shown ≡ printed_moment t
+    → a ≡ old ++ take 2 (drop 8 shown) → b ≡ a ++ 47 ∷ [] → c ≡ b ++ take 2 (drop 5 shown) → d ≡ c ++ 47 ∷ [] → e ≡ d ++ take 4 shown
+    → e ≡ old ++ date_text (date_shown t)
+unfolding printed_moment
+date_pieces old a b c d e shown t is p q r s u =
+    let all : e ≡ ((((old ++ take 2 (drop 8 shown)) ++ 47 ∷ []) ++ take 2 (drop 5 shown)) ++ 47 ∷ []) ++ take 4 shown = rw (u, s, r, q, p) refl in
+    all ∙ five_pieces old (take 2 (drop 8 shown)) (47 ∷ []) (take 2 (drop 5 shown)) (47 ∷ []) (take 4 shown)
+    ∙ ap (λ z. old ++ (take 2 (drop 8 z) ++ (47 ∷ take 2 (drop 5 z) ++ (47 ∷ take 4 z)))) is
+
+-- three digits that are 0 say that the number is a whole multiple of 1000
+zeros : (n : ℕ) (a b c : Bool) → (48 == 48 + n / 10 / 10 % 10) ≡ a → (48 == 48 + n / 10 % 10) ≡ b → (48 == 48 + n % 10) ≡ c → (n % 1000 == 0) ≡ (a && (b && (c && true)))
+zeros n true true true p q r = eq-eqb (n % 1000) 0 (omega (arith, eqb-true 48 (48 + n / 10 / 10 % 10) p, eqb-true 48 (48 + n / 10 % 10) q, eqb-true 48 (48 + n % 10) r))
+zeros n true true false p q r = ne_eqb (n % 1000) 0 (λ e. eqb-false 48 (48 + n % 10) r (omega (arith, e)))
+zeros n true false c p q r = ne_eqb (n % 1000) 0 (λ e. eqb-false 48 (48 + n / 10 % 10) q (omega (arith, e)))
+zeros n false b c p q r = ne_eqb (n % 1000) 0 (λ e. eqb-false 48 (48 + n / 10 / 10 % 10) p (omega (arith, e)))
+
+-- the digits of thousands are the first of those of the number
+front : (n : ℕ) → padded 6 (n / 10 / 10 / 10) ≡ padded 6 (n / 1000)
+front n = let same : n / 10 / 10 / 10 ≡ n / 1000 = omega arith in ap (padded 6) same
+
+whole_fraction : (n : ℕ) → (n % 1000 == 0) ≡ true → padded 6 (n / 10 / 10 / 10) ≡ fraction_text n
+whole_fraction n is = front n ∙ sym (ap (λ b. cond b (padded 6 (n / 1000)) (padded 9 n)) is)
+
+full_fraction : (n : ℕ) → (n % 1000 == 0) ≡ false → padded 9 n ≡ fraction_text n
+full_fraction n is = sym (ap (λ b. cond b (padded 6 (n / 1000)) (padded 9 n)) is)
+
+last_digits : (t : ℤ) (b : Bool) → ends_with nat_eq (printed_moment t) (48 ∷ 48 ∷ 48 ∷ 90 ∷ []) ≡ b → ((time_shown t).nanosecond % 1000 == 0) ≡ b
+unfolding printed_moment
+last_digits t b e =
+    let n : ℕ = (time_shown t).nanosecond in
+    zeros n (48 == 48 + n / 10 / 10 % 10) (48 == 48 + n / 10 % 10) (48 == 48 + n % 10) refl refl refl ∙ e
+
+-- the time of day of a printed moment, without the last three digits
+pub time_whole : (old a shown : Text) (t : ℤ) → shown ≡ printed_moment t → ends_with nat_eq shown (48 ∷ 48 ∷ 48 ∷ 90 ∷ []) ≡ true → a ≡ old ++ take 15 (drop 11 shown)
+    → a ≡ old ++ time_text (time_shown t)
+unfolding printed_moment
+time_whole old a shown t is zero p =
+    let n = (time_shown t).nanosecond in
+    let last = last_digits t true (ap (λ z. ends_with nat_eq z (48 ∷ 48 ∷ 48 ∷ 90 ∷ [])) (sym is) ∙ zero) in
+    p ∙ ap (λ z. old ++ take 15 (drop 11 z)) is ∙ ap (λ z. old ++ (hms_text (time_shown t) ++ 46 ∷ z)) (whole_fraction n last)
+
+-- and with them
+pub time_full : (old a b shown : Text) (t : ℤ) → shown ≡ printed_moment t → ends_with nat_eq shown (48 ∷ 48 ∷ 48 ∷ 90 ∷ []) ≡ false → a ≡ old ++ take 15 (drop 11 shown) → b ≡ a ++ take 3 (drop 26 shown)
+    → b ≡ old ++ time_text (time_shown t)
+unfolding printed_moment
+time_full old a b shown t is some p q =
+    let n = (time_shown t).nanosecond in
+    let last = last_digits t false (ap (λ z. ends_with nat_eq z (48 ∷ 48 ∷ 48 ∷ 90 ∷ [])) (sym is) ∙ some) in
+    q ∙ ap (λ z. z ++ take 3 (drop 26 shown)) p ∙ append_assoc old (take 15 (drop 11 shown)) (take 3 (drop 26 shown))
+    ∙ ap (λ z. old ++ (take 15 (drop 11 z) ++ take 3 (drop 26 z))) is ∙ ap (λ z. old ++ (hms_text (time_shown t) ++ 46 ∷ z)) (full_fraction n last)
