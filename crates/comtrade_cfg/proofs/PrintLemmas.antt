@@ -1,11 +1,14 @@
 -- A canonical text put together from its pieces.
-use Rattle.std.proofs.Common.{◌≡◌, ℕ, ◌+◌, ◌-◌, ◌/◌, ◌%◌, ◌==◌, Bool, true, false, cond, ◌&&◌, ℤ, List, [], ◌∷◌, ◌++◌, map, take, drop, length, append_assoc, append-nil, refl, sym, ap, ◌∙◌, arith}
+use Rattle.std.proofs.Common.{◌≡◌, ℕ, ◌+◌, ◌-◌, ◌/◌, ◌%◌, ◌==◌, Bool, true, false, cond, ◌&&◌, ℤ, List, [], ◌∷◌, ◌++◌, map, take, drop, length, get_or, ◌<◌, append_assoc, append-nil, refl, sym, ap, ◌∙◌, arith}
 use Rattle.std.specs.List.{flat_map, ends_with}
 use Rattle.std.specs.Prelude.{nat_eq}
 use Rattle.std.proofs.lemmas.Bool.{eq-eqb, ne_eqb, eqb-true, eqb-false}
 use Rattle.pq_words.specs.Text.{Text, padded}
 use Rattle.pq_time.specs.Printed.{printed_moment, date_shown, time_shown, since_1600, hms_text}
-use Rattle.comtrade_cfg.specs.Canonical.{date_text, time_text, fraction_text}
+use Rattle.std.specs.Prelude.{decimal}
+use Rattle.std.proofs.lemmas.List.{take_more, map_push, length-map, length-take-le, flat_map_more}
+use Rattle.comtrade_cfg.specs.Canonical.{date_text, time_text, fraction_text, row_of, numbered_rows}
+use Rattle.comtrade_cfg.specs.CanonicalParts.{ended, lines_text}
 
 -- five pieces, one after another
 five_pieces : (old p q r s u : Text) → ((((old ++ p) ++ q) ++ r) ++ s) ++ u ≡ old ++ (p ++ (q ++ (r ++ (s ++ u))))
@@ -62,3 +65,25 @@ time_full old a b shown t is some p q =
     let last = last_digits t false (ap (λ z. ends_with nat_eq z (48 ∷ 48 ∷ 48 ∷ 90 ∷ [])) (sym is) ∙ some) in
     q ∙ ap (λ z. z ++ take 3 (drop 26 shown)) p ∙ append_assoc old (take 15 (drop 11 shown)) (take 3 (drop 26 shown))
     ∙ ap (λ z. old ++ (take 15 (drop 11 z) ++ take 3 (drop 26 z))) is ∙ ap (λ z. old ++ (hms_text (time_shown t) ++ 46 ∷ z)) (full_fraction n last)
+
+-- ---- numbered lines
+
+-- one line more
+numbered_more : (position : ℕ) (rows : List (List Text)) (x : List Text) → numbered_rows position (rows ++ x ∷ []) ≡ numbered_rows position rows ++ row_of (decimal (position + length rows) ∷ x) ∷ []
+numbered_more position [] x = let same : position ≡ position + 0 = omega arith in ap (λ n. row_of (decimal n ∷ x) ∷ []) same
+numbered_more position (row ∷ rows) x =
+    let same : position + 1 + length rows ≡ position + length (row ∷ rows) = omega arith in
+    ap (λ more. row_of (decimal position ∷ row) ∷ more) (numbered_more (position + 1) rows x ∙ ap (λ n. numbered_rows (position + 1) rows ++ row_of (decimal n ∷ x) ∷ []) same)
+
+pub line_more : {X : Type 0} (f : X → List Text) (xs : List X) (i position : ℕ) (x : X) (old before after : Text) → i < length xs → x ≡ get_or xs i x → position ≡ i + 1
+    → before ≡ old ++ lines_text (numbered_rows 1 (map f (take i xs))) → after ≡ before ++ ended (row_of (decimal position ∷ f x))
+    → after ≡ old ++ lines_text (numbered_rows 1 (map f (take (i + 1) xs)))
+line_more f xs i position x old before after inside item next so_far more =
+    let rows : List (List Text) = map f (take i xs) in
+    let count : 1 + length rows ≡ position = omega (arith, next, length-map (take i xs) f, length-take-le i xs (omega (arith, inside))) in
+    let taken : map f (take (i + 1) xs) ≡ rows ++ f x ∷ [] = ap (map f) (take_more xs i x inside) ∙ map_push f (take i xs) (get_or xs i x) ∙ ap (λ y. rows ++ f y ∷ []) (sym item) in
+    let lines : numbered_rows 1 (map f (take (i + 1) xs)) ≡ numbered_rows 1 rows ++ row_of (decimal position ∷ f x) ∷ [] =
+    ap (numbered_rows 1) taken ∙ numbered_more 1 rows (f x) ∙ ap (λ n. numbered_rows 1 rows ++ row_of (decimal n ∷ f x) ∷ []) count in
+    more ∙ ap (λ z. z ++ ended (row_of (decimal position ∷ f x))) so_far
+    ∙ flat_map_more ended old (numbered_rows 1 rows) (row_of (decimal position ∷ f x))
+    ∙ ap (λ z. old ++ lines_text z) (sym lines)

@@ -8,6 +8,7 @@ pub use selection::{SelectFault, Selection};
 mod cfg;
 mod fault;
 mod head;
+mod print_channels;
 mod print_number;
 mod print_stamp;
 mod sampling;
