@@ -1,6 +1,8 @@
 -- How large the parts of a configuration are that some text says.
 use Rattle.std.proofs.Common.{◌≡◌, ℕ, zero, suc, ◌+◌, ◌*◌, ◌^◌, ◌<◌, ◌≤◌, ◌⊎◌, inl, inr, Bool, true, false, cond, List, [], ◌∷◌, length, ℤ, pos, negsuc, neg_ℤ, ◌+ℤ◌, ◌*ℤ◌, ◌≤ℤ◌, Option, Some, None, Result, Ok, Err, refl, sym, subst, ap, ◌∙◌, arith, nat_le, nat_lt, ◌==◌, ◌&&◌}
-use Rattle.std.proofs.lemmas.Bool.{and_parts, leb-true, eqb-true}
+use Rattle.std.specs.Option.{ForSome}
+use Rattle.std.specs.Char.{digit_value}
+use Rattle.std.proofs.lemmas.Bool.{and_parts, ltb-true, leb-true, eqb-true}
 use Rattle.jiff_core.specs.Calendar.{days_in_month, days_from_civil, IsBetween}
 use Rattle.jiff_core.specs.declared.civil.date.Date.{Date}
 use Rattle.jiff_core.specs.Date.{epoch_day}
@@ -23,7 +25,7 @@ use Rattle.comtrade_cfg.specs.declared.fault.CfgFault.TheVariants as fault
 use Rattle.comtrade_cfg.specs.declared.fault.Quantity.{Quantity}
 use Rattle.comtrade_cfg.specs.declared.fault.Quantity.TheVariants as quantity
 use Rattle.comtrade_cfg.specs.Configuration.{Configuration}
-use Rattle.comtrade_cfg.specs.Fields.{Ahead, Reading, LineRule, ahead_of, on_line, channel_count, position_field, decimal_field, frequency_of, frequency_field, is_rate, rate_of, rate_field, samples_field, number_field, moment_fields, fields_of, local_code_of, leap_field, field_or_fault, lettered}
+use Rattle.comtrade_cfg.specs.Fields.{Ahead, Reading, LineRule, ahead_of, on_line, channel_count, position_field, decimal_field, frequency_of, frequency_field, is_rate, rate_of, rate_field, samples_field, number_field, moment_fields, fields_of, local_code_of, leap_field, field_or_fault, lettered, hexadecimal}
 use Rattle.comtrade_cfg.specs.CfgText.{configuration_of, configuration_ahead, channel_lines, counts_line, frequency_line, sampling_line, stamp_line, zone_lines, time_code_line, time_quality_line, analogue_line, status_line, offset_of, IsConfiguration}
 use Rattle.comtrade_cfg.proofs.LinesRead.{LinesRead, lines_read, line_read, from_bind, same_ok}
 use Rattle.comtrade_cfg.proofs.WrittenFacts.{date_civil, IsClockTime, time_clock, code_small}
@@ -209,6 +211,35 @@ offset_small false start y e =
     let same : pos 0 ≡ offset_of y.0 = ap (λ (y : Option Zone × Ahead). offset_of y.0) (same_ok e) in
     subst (IsWithin 899) same (omega (arith, signed_arith), omega (arith, signed_arith))
 
+hexadecimal_small : (text : Text) (n : ℕ) → hexadecimal text ≡ Some n → n < 16
+hexadecimal_small [] n e = absurd cc
+hexadecimal_small (c ∷ []) n e = at (nat_lt (digit_value c) 16) refl e
+  where
+    at : (b : Bool) → nat_lt (digit_value c) 16 ≡ b → cond b (Some (digit_value c)) None ≡ Some n → n < 16
+    at true is e = let same : digit_value c ≡ n = cc in omega (arith, same, ltb-true (digit_value c) 16 is)
+    at false is e = absurd cc
+hexadecimal_small (c ∷ d ∷ more) n e = absurd cc
+
+quality_small : (line : ℕ) (fields : List Text) (x : ℕ × ℕ) → time_quality_line line fields ≡ Ok x → x.0 < 16
+quality_small line [] x e = absurd cc
+quality_small line (a ∷ []) x e = absurd cc
+quality_small line (tmq_code ∷ leapsec ∷ []) x e =
+    from_bind (field_or_fault line 1 (hexadecimal tmq_code)) _ x e (λ q q_is e. from_bind (leap_field line 2 leapsec) _ x e (λ l l_is e.
+    let same : q ≡ x.0 = ap (λ (x : ℕ × ℕ). x.0) (same_ok e) in
+    omega (arith, same, hexadecimal_small tmq_code q (some_ok (hexadecimal tmq_code) _ q q_is))))
+quality_small line (a ∷ b ∷ c ∷ more) x e = absurd cc
+
+-- the time quality is one hexadecimal digit
+pub zone_quality : (is_2013 : Bool) (start : Ahead) (y : Option Zone × Ahead) → zone_lines is_2013 start ≡ Ok y → ForSome y.0 (λ z. z.quality < 16)
+zone_quality true start y e z there =
+    from_bind (on_line time_code_line start) _ y e (λ codes codes_is e. from_bind (on_line time_quality_line codes.1) _ y e (λ quality quality_is e.
+    let r = line_read time_quality_line codes.1 quality quality_is in
+    let zone : Zone = record { time_code = codes.0.0; local_code = codes.0.1; quality = quality.0.0; leap = quality.0.1 } in
+    let same : Some zone ≡ Some z = ap (λ (y : Option Zone × Ahead). y.0) (same_ok e) ∙ there in
+    let is : zone ≡ z = cc in
+    subst (λ (z : Zone). z.quality < 16) is (quality_small codes.1.number (fields_of r.line) quality.0 r.value)))
+zone_quality false start y e z there = absurd (let same : None ≡ Some z = ap (λ (y : Option Zone × Ahead). y.0) (same_ok e) ∙ there in cc)
+
 -- ---- the whole
 
 -- the bounds of a configuration that some text says
@@ -221,6 +252,8 @@ pub record IsBounded (c : Configuration) : Type 0 where
   pub status : length c.status ≤ 999
   pub first : IsWithin (8 * 10 ^ 18) c.first
   pub trigger : IsWithin (8 * 10 ^ 18) c.trigger
+  pub offset : IsWithin 899 (offset_of c.zone)
+  pub quality : ForSome c.zone (λ z. z.quality < 16)
 
 utc_within : (written minutes : ℤ) → IsWithin (7_300 * 10 ^ 15) written → IsWithin 899 minutes → IsWithin (8 * 10 ^ 18) (utc_of written minutes)
 utc_within written minutes w m = omega (arith, signed_arith, w, m)
@@ -252,6 +285,8 @@ bounded start c r =
       status = omega (arith, few, status);
       first = utc_within r.first.0 (offset_of r.zone.0) (stamp_within r.sampling.1 r.first r.first_is) offset;
       trigger = utc_within r.trigger.0 (offset_of r.zone.0) (stamp_within r.first.1 r.trigger r.trigger_is) offset;
+      offset = offset;
+      quality = zone_quality (r.station.0.revision == 2013) r.timemult.1 r.zone r.zone_is;
     })
 
 -- a configuration that a text says was read from lines

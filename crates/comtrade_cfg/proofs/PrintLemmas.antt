@@ -7,8 +7,12 @@ use Rattle.pq_words.specs.Text.{Text, padded}
 use Rattle.pq_time.specs.Printed.{printed_moment, date_shown, time_shown, since_1600, hms_text}
 use Rattle.std.specs.Prelude.{decimal}
 use Rattle.std.proofs.lemmas.List.{take_more, map_push, length-map, length-take-le, flat_map_more}
-use Rattle.comtrade_cfg.specs.Canonical.{date_text, time_text, fraction_text, row_of, numbered_rows}
-use Rattle.comtrade_cfg.specs.CanonicalParts.{ended, lines_text}
+use Rattle.comtrade_cfg.specs.Canonical.{date_text, time_text, fraction_text, row_of, rate_text, stamp_text, file_type_text, analogue_fields, status_fields, numbered_rows, zone_rows, canonical_text}
+use Rattle.comtrade_cfg.specs.Configuration.{Configuration}
+use Rattle.comtrade_cfg.specs.CfgText.{offset_of}
+use Rattle.pq_time.specs.Moment.{written_of}
+use Rattle.std.proofs.lemmas.Grind.{flat_map-append}
+use Rattle.comtrade_cfg.specs.CanonicalParts.{ended, lines_text, station_text, counts_text, analogue_text, status_text, sampling_text, moments_text, form_text, zone_text}
 
 -- five pieces, one after another
 five_pieces : (old p q r s u : Text) → ((((old ++ p) ++ q) ++ r) ++ s) ++ u ≡ old ++ (p ++ (q ++ (r ++ (s ++ u))))
@@ -87,3 +91,33 @@ line_more f xs i position x old before after inside item next so_far more =
     more ∙ ap (λ z. z ++ ended (row_of (decimal position ∷ f x))) so_far
     ∙ flat_map_more ended old (numbered_rows 1 rows) (row_of (decimal position ∷ f x))
     ∙ ap (λ z. old ++ lines_text z) (sym lines)
+
+-- ---- the whole
+
+tail_parts : (lf one rate first trigger ft timemult zone : Text) → lf ++ (one ++ (rate ++ (first ++ (trigger ++ (ft ++ (timemult ++ zone)))))) ≡ (lf ++ one ++ rate) ++ ((first ++ trigger) ++ ((ft ++ timemult) ++ zone))
+tail_parts lf one rate first trigger ft timemult zone = simp append_assoc
+
+-- a canonical text in its parts
+pub canonical_parts : (c : Configuration) → canonical_text c
+    ≡ station_text c ++ (counts_text (length c.analogue) (length c.status) ++ (analogue_text c.analogue ++ (status_text c.status ++ (sampling_text c ++ (moments_text c ++ (form_text c ++ zone_text c.zone))))))
+unfolding canonical_text
+canonical_parts c =
+    let utc = λ (t : ℤ). ended (stamp_text (written_of t (offset_of c.zone))) in
+    let rest : List Text = decimal c.lf ∷ decimal 1 ∷ row_of (rate_text c.rate ∷ decimal c.endsamp ∷ []) ∷ stamp_text (written_of c.first (offset_of c.zone)) ∷ stamp_text (written_of c.trigger (offset_of c.zone)) ∷ file_type_text c.file_type ∷ c.timemult ∷ zone_rows c.zone in
+    let analogue = numbered_rows 1 (map analogue_fields c.analogue) in
+    let status = numbered_rows 1 (map status_fields c.status) in
+    ap (λ z. station_text c ++ (counts_text (length c.analogue) (length c.status) ++ z))
+    (ap lines_text (append_assoc analogue status rest) ∙ flat_map-append ended analogue (status ++ rest)
+    ∙ ap (λ z. lines_text analogue ++ z) (flat_map-append ended status rest
+    ∙ ap (λ z. lines_text status ++ z)
+    (tail_parts (ended (decimal c.lf)) (ended (decimal 1)) (ended (row_of (rate_text c.rate ∷ decimal c.endsamp ∷ []))) (utc c.first) (utc c.trigger) (ended (file_type_text c.file_type)) (ended c.timemult) (zone_text c.zone))))
+
+eight_pieces : (a b d e f g h i : Text) → ((((((([] ++ a) ++ b) ++ d) ++ e) ++ f) ++ g) ++ h) ++ i ≡ a ++ (b ++ (d ++ (e ++ (f ++ (g ++ (h ++ i))))))
+eight_pieces a b d e f g h i = simp append_assoc
+
+-- eight pieces, one after another from nothing
+pub eight_appended : (a b d e f g h i t0 t1 t2 t3 t4 t5 t6 t7 t8 : Text) → t0 ≡ [] → t1 ≡ t0 ++ a → t2 ≡ t1 ++ b → t3 ≡ t2 ++ d → t4 ≡ t3 ++ e → t5 ≡ t4 ++ f → t6 ≡ t5 ++ g → t7 ≡ t6 ++ h → t8 ≡ t7 ++ i
+    → t8 ≡ a ++ (b ++ (d ++ (e ++ (f ++ (g ++ (h ++ i))))))
+eight_appended a b d e f g h i t0 t1 t2 t3 t4 t5 t6 t7 t8 p0 p1 p2 p3 p4 p5 p6 p7 p8 =
+    let whole : t8 ≡ ((((((([] ++ a) ++ b) ++ d) ++ e) ++ f) ++ g) ++ h) ++ i = rw (p8, p7, p6, p5, p4, p3, p2, p1, p0) refl in
+    whole ∙ eight_pieces a b d e f g h i

@@ -1,5 +1,5 @@
 -- The parts of a canonical text, one after another, as they are printed (profile).
-use Rattle.std.specs.Prelude.{ℕ, ◌+◌, List, [], ◌∷◌, ◌++◌, length, map, Option, Some, None, decimal}
+use Rattle.std.specs.Prelude.{ℕ, ◌+◌, List, [], ◌∷◌, ◌++◌, length, map, Option, Some, None, ℤ, decimal, codes}
 use Rattle.std.specs.Option.{option_map_or}
 use Rattle.std.specs.List.{flat_map}
 use Rattle.pq_words.specs.Text.{Text}
@@ -9,7 +9,7 @@ use Rattle.comtrade_cfg.specs.declared.cfg.StatusLine.{StatusLine}
 use Rattle.comtrade_cfg.specs.declared.cfg.Zone.{Zone}
 use Rattle.comtrade_cfg.specs.Configuration.{Configuration}
 use Rattle.comtrade_cfg.specs.CfgText.{offset_of}
-use Rattle.comtrade_cfg.specs.Canonical.{row_of, rate_text, stamp_text, file_type_text, analogue_fields, status_fields, numbered_rows, zone_rows}
+use Rattle.comtrade_cfg.specs.Canonical.{row_of, rate_text, stamp_text, code_text, file_type_text, analogue_fields, status_fields, numbered_rows, zone_rows}
 
 -- a line with its end
 abbrev pub ended : Text → Text
@@ -54,3 +54,7 @@ form_text c = ended (file_type_text c.file_type) ++ ended c.timemult
 -- the lines that revision 2013 has behind them
 abbrev pub zone_text : Option Zone → Text
 zone_text zone = lines_text (zone_rows zone)
+
+-- a time code, or `x` where there is none
+abbrev pub local_code_text : Option ℤ → Text
+local_code_text code = option_map_or code_text code (codes "x")

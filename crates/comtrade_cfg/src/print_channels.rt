@@ -19,7 +19,11 @@ fn push_behind_commas(text: &mut Vec<u8>, fields: &[&[u8]]) -> Result<(), AllocE
 }
 
 // Appends the line of the analogue channel at a position.
-fn push_analogue_line(text: &mut Vec<u8>, position: u64, channel: &Analogue) -> Result<(), AllocError>
+fn push_analogue_line(
+    text: &mut Vec<u8>,
+    position: u64,
+    channel: &Analogue,
+) -> Result<(), AllocError>
     ensures { OnOk result (text.new.items ≡ text.old.items ++ ended (row_of (decimal position ∷ analogue_fields channel.now))) }
 {
     let fields = [
@@ -43,7 +47,11 @@ fn push_analogue_line(text: &mut Vec<u8>, position: u64, channel: &Analogue) -> 
 }
 
 // Appends the line of the status channel at a position.
-fn push_status_line(text: &mut Vec<u8>, position: u64, channel: &StatusLine) -> Result<(), AllocError>
+fn push_status_line(
+    text: &mut Vec<u8>,
+    position: u64,
+    channel: &StatusLine,
+) -> Result<(), AllocError>
     ensures { OnOk result (text.new.items ≡ text.old.items ++ ended (row_of (decimal position ∷ status_fields channel.now))) }
 {
     let fields = [
