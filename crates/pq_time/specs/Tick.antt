@@ -1,0 +1,44 @@
+-- The subject: ticks, the UTC moments at which a clock interval of 10 s, 10 min or 2 h begins (4.4, 4.5, 5.1). Which ticks a recording has is profile.
+-- Sections are those of IEC 61000-4-30:2015; "profile" marks a choice of this project.
+use Rattle.std.specs.Prelude.{◌≡◌, ◌⊎◌, ◌↔◌, ℕ, ◌*◌, ◌^◌, List, ℤ, pos, negsuc, neg_ℤ, ◌+ℤ◌, ◌-ℤ◌, ◌*ℤ◌, ◌≤ℤ◌, Contains}
+use Rattle.std.specs.Int.{int_div_euclid, int_rem_euclid}
+use Rattle.pq_time.specs.declared.clock.Clock.{Clock}
+use Rattle.pq_time.specs.Time.{time_of}
+use Rattle.pq_words.specs.Steps.{steps_from}
+
+-- the periods of ticks, in seconds: of frequency readings (5.1), and of 10-minute and 2-hour intervals (4.4, 4.5)
+abbrev pub IsPeriod : ℕ → Type 0
+IsPeriod period = (period ≡ 10) ⊎ ((period ≡ 600) ⊎ (period ≡ 7200))
+
+-- a UTC second in nanoseconds
+abbrev pub moment_of : ℤ → ℤ
+moment_of second = second *ℤ pos (10 ^ 9)
+
+-- the second is a tick of a period in seconds: divisible by it, and from the first sample's moment to that of place n, both included
+pub record IsTick (clock : Clock) (n period : ℕ) (second : ℤ) : Type 0 where
+  pub divisible : int_rem_euclid second (pos period) ≡ pos 0
+  pub not_before : clock.t0 ≤ℤ (moment_of second)
+  pub not_after : (moment_of second) ≤ℤ (time_of clock n)
+
+-- the list has the ticks of a period and nothing else
+abbrev pub HasTicks : Clock → ℕ → ℕ → List ℤ → Type 0
+HasTicks clock n period seconds = (second : ℤ) → Contains seconds second ↔ IsTick clock n period second
+
+-- z, or 0 where it is negative
+abbrev pub at_least_zero : ℤ → ℕ
+at_least_zero (pos k) = k
+at_least_zero (negsuc k) = 0
+
+-- the last whole number of periods at or before a moment, and the first one at or after it
+abbrev pub last_period : ℤ → ℕ → ℤ
+last_period moment period = int_div_euclid moment (pos (period * 10 ^ 9))
+
+abbrev pub first_period : ℤ → ℕ → ℤ
+first_period moment period = neg_ℤ (last_period (neg_ℤ moment) period)
+
+-- the ticks of a period, as UTC seconds in rising order
+unfoldable pub ticks : Clock → ℕ → ℕ → List ℤ
+ticks clock n period =
+    let first = first_period clock.t0 period in
+    let count = at_least_zero ((last_period (time_of clock n) period -ℤ first) +ℤ pos 1) in
+    steps_from (first *ℤ pos period) period count

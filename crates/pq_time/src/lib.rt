@@ -1,0 +1,21 @@
+//! Moments as they are written and printed, the times of samples, the places of moments and the ticks of clock intervals.
+#![tactic(auto)]
+
+pub use bad_moment::BadMoment;
+pub use clock::Clock;
+pub use moment::{read_moment, to_utc};
+pub use printed::print_moment;
+pub use ticks::Ticks;
+pub use time_code::read_code;
+
+mod bad_moment;
+mod clock;
+mod date;
+mod field;
+mod moment;
+mod printed;
+#[cfg(test)]
+mod tests;
+mod ticks;
+mod time_code;
+mod time_of_day;
