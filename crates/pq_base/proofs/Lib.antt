@@ -1,2 +1,6 @@
+pub mod CutLemmas
+pub mod DecimalLemmas
+pub mod DigitsLemmas
 pub mod Places
+pub mod RoundLemmas
 mod StandardFacts

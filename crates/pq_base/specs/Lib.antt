@@ -1,4 +1,5 @@
 pub mod Causes
+pub mod Decimal
 pub mod MemoryShelf
 pub mod MemorySink
 pub mod Outside
