@@ -1,4 +1,2 @@
-pub mod LinesRead
-pub mod WrittenFacts
-pub mod ConfigurationBounds
-pub mod PrintLemmas
+pub mod LineLemmas
+pub mod ChannelLemmas

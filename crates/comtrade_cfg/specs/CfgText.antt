@@ -23,13 +23,17 @@ use Rattle.comtrade_cfg.specs.declared.fault.Unsupported.TheVariants as unsuppor
 use Rattle.comtrade_cfg.specs.Configuration.{Configuration, view}
 use Rattle.comtrade_cfg.specs.Fields.{Ahead, ahead_of, Reading, on_line, only_blank_lines, field_or_fault, text_field, number_field, position_field, decimal_text, channel_count, frequency_field, rate_field, samples_field, moment_fields, hexadecimal, leap_field, local_code_of}
 
--- the station line: station, device, revision. With two fields alone it is of an earlier revision
-abbrev pub station_line : ℕ → List Text → Result Station CfgFault
-station_line line (station ∷ device ∷ revision ∷ []) = do
+-- the three fields of a station line: station, device, revision
+unfoldable pub station_fields : ℕ → (station device revision : Text) → Result Station CfgFault
+station_fields line station device revision = do
   s ← text_field line 1 station
   d ← text_field line 2 device
   r ← number_field line 3 revision
   provided ((r == 1999) || (r == 2013)) (fault.Unsupported unsupported.Revision line) (record { station = s; device = d; revision = r })
+
+-- the station line. With two fields alone it is of an earlier revision
+abbrev pub station_line : ℕ → List Text → Result Station CfgFault
+station_line line (station ∷ device ∷ revision ∷ []) = station_fields line station device revision
 station_line line (station ∷ device ∷ []) = Err (fault.Unsupported unsupported.Revision line)
 station_line line _ = Err (fault.Line line)
 
@@ -42,9 +46,9 @@ counts_line line (total ∷ analogue ∷ status ∷ []) = do
   Ok (record { analogue = a; status = d })
 counts_line line _ = Err (fault.Line line)
 
--- an analogue channel line: An, id, phase, component, unit, a, b, skew, min, max, primary, secondary, PS
-abbrev pub analogue_line : ℕ → ℕ → List Text → Result Analogue CfgFault
-analogue_line position line (an ∷ id ∷ phase ∷ component ∷ unit ∷ a ∷ b ∷ skew ∷ min ∷ max ∷ primary ∷ secondary ∷ ps ∷ []) = do
+-- the fields of an analogue channel line: An, id, phase, component, unit, a, b, skew, min, max, primary, secondary, PS
+unfoldable pub analogue_fields : ℕ → ℕ → (an id phase component unit a b skew min max primary secondary ps : Text) → Result Analogue CfgFault
+analogue_fields position line an id phase component unit a b skew min max primary secondary ps = do
   n ← position_field position line 1 an
   id ← text_field line 2 id
   phase ← text_field line 3 phase
@@ -59,17 +63,26 @@ analogue_line position line (an ∷ id ∷ phase ∷ component ∷ unit ∷ a �
   secondary ← text_field line 12 secondary
   side ← text_field line 13 ps
   Ok (record { id = id; phase = phase; component = component; unit = unit; a = a; b = b; skew = skew; least = least; greatest = greatest; primary = primary; secondary = secondary; side = side })
+
+-- an analogue channel line
+abbrev pub analogue_line : ℕ → ℕ → List Text → Result Analogue CfgFault
+analogue_line position line (an ∷ id ∷ phase ∷ component ∷ unit ∷ a ∷ b ∷ skew ∷ min ∷ max ∷ primary ∷ secondary ∷ ps ∷ []) =
+    analogue_fields position line an id phase component unit a b skew min max primary secondary ps
 analogue_line position line _ = Err (fault.Line line)
 
--- a status channel line: Dn, id, phase, component, normal
-abbrev pub status_line : ℕ → ℕ → List Text → Result StatusLine CfgFault
-status_line position line (dn ∷ id ∷ phase ∷ component ∷ normal ∷ []) = do
+-- the fields of a status channel line: Dn, id, phase, component, normal
+unfoldable pub status_fields : ℕ → ℕ → Text → Text → Text → Text → Text → Result StatusLine CfgFault
+status_fields position line dn id phase component normal = do
   n ← position_field position line 1 dn
   id ← text_field line 2 id
   phase ← text_field line 3 phase
   component ← text_field line 4 component
   normal ← text_field line 5 normal
   Ok (record { id = id; phase = phase; component = component; normal = normal })
+
+-- a status channel line
+abbrev pub status_line : ℕ → ℕ → List Text → Result StatusLine CfgFault
+status_line position line (dn ∷ id ∷ phase ∷ component ∷ normal ∷ []) = status_fields position line dn id phase component normal
 status_line position line _ = Err (fault.Line line)
 
 -- the lines of n channels, the first of them at this position

@@ -85,15 +85,15 @@ position_field position line field text = do
   n ← number_field line field text
   provided (n == position) (fault.Field line field) n
 
--- a Decimal that keeps its spelling
-unfoldable pub decimal_text : ℕ → ℕ → Text → Result Text CfgFault
-decimal_text line field text = do
-  x ← field_or_fault line field (decimal_of text)
-  Ok text
-
 -- a Decimal
 unfoldable pub decimal_field : ℕ → ℕ → Text → Result Scaled CfgFault
 decimal_field line field text = field_or_fault line field (decimal_of text)
+
+-- a Decimal that keeps its spelling
+unfoldable pub decimal_text : ℕ → ℕ → Text → Result Text CfgFault
+decimal_text line field text = do
+  x ← decimal_field line field text
+  Ok text
 
 -- a Number followed by a letter, which is given as capital and may be small
 abbrev pub lettered : ℕ → Text → Option ℕ

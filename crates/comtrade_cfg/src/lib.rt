@@ -3,15 +3,18 @@
 
 pub use cfg::{Analogue, Cfg, FileType, StatusLine, Zone};
 pub use fault::{CfgFault, Quantity, Unsupported};
-pub use print::print_cfg;
+pub use reading::read_cfg;
 pub use selection::{SelectFault, Selection};
 
+mod blank;
 mod cfg;
+mod channels;
+mod cursor;
 mod fault;
+mod field;
 mod head;
-mod print;
-mod print_channels;
-mod print_number;
-mod print_stamp;
+mod lines;
+mod reading;
 mod sampling;
 mod selection;
+mod zone;

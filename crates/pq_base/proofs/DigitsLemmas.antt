@@ -27,7 +27,7 @@ pub room_of_fewer : (most i j : ℕ) → i ≤ j → most * 10 ^ i ≤ most * 10
 room_of_fewer most i j few = mul-le most (10 ^ i) most (10 ^ j) (omega arith) (power_le i j few)
 
 -- the room of two numbers of digits, one after the other
-pub room_of_both : (front i j : ℕ) → front < 1 * 10 ^ i → i + j ≤ 32 → (front + 1) * 10 ^ j ≤ 10 ^ 38
+pub room_of_both : (front i j : ℕ) → front < 1 * 10 ^ i → i + j ≤ 38 → (front + 1) * 10 ^ j ≤ 10 ^ 38
 room_of_both front i j below few =
     omega (arith, mul-le (front + 1) (10 ^ j) (10 ^ i) (10 ^ j) (omega (arith, below)) (omega arith), pow-add 10 i j, power_le (i + j) 38 (omega (arith, few)))
 

@@ -20,9 +20,9 @@ rounded_to_none n d small = sym (div-eq_of_lt {n = 2 * n + d} {m = 2 * d} (omega
 pub small_digits : (n power : ℕ) → n < 2 ^ 128 → 38 < power → 2 * n < 10 ^ power
 small_digits n power fits more = omega (arith, power_le 39 power (omega arith))
 
-pub large_product : (digits power most : ℕ) → 0 < digits → 30 < power → most ≤ 10 ^ 30 → most < digits * 10 ^ power
-large_product digits power most some more small =
-    omega (arith, mul-le 1 (10 ^ power) digits (10 ^ power) (omega arith) (omega arith), power_le 31 power (omega arith))
+pub large_product : (digits power : ℕ) → 0 < digits → 38 < power → digits * 10 ^ power < 2 ^ 128 → ⊥
+large_product digits power some more fits =
+    omega (arith, mul-le 1 (10 ^ power) digits (10 ^ power) (omega arith) (omega arith), power_le 39 power (omega arith))
 
 pub fits_128 : (power : ℕ) → power ≤ 38 → 10 ^ power < 2 ^ 128
 fits_128 power few = omega (arith, power_le power 38 few)

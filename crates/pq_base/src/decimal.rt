@@ -13,6 +13,9 @@ const MOST_DIGITS: usize = 32;
 
 const TEN: u128 = 10;
 
+// The greatest power of ten within 128 bits.
+const MOST_POWER: u64 = 38;
+
 /// A number in whole digits times a power of ten.
 #[derive(Clone, Copy, Debug, PartialEq, Eq)]
 pub struct Scaled {
@@ -55,7 +58,7 @@ impl Scaled {
         let size = if power < 0 {
             divided(self.digits, power.unsigned_abs())
         } else {
-            multiplied(self.digits, power as u64, most)?
+            multiplied(self.digits, power as u64)?
         };
         if size > most {
             return None;
@@ -159,22 +162,17 @@ fn joined_digits(whole: &[u8], fraction: &[u8]) -> Option<u128>
     with_digits(front, fraction)
 }
 
-// The digits times ten to the power; None where that is above `most`.
-fn multiplied(digits: u128, power: u64, most: u128) -> Option<u128>
-    requires { most ≤ 10 ^ 30 }
-    ensures { SomeIff result (digits * 10 ^ power ≤ most) (digits * 10 ^ power) }
+// The digits times ten to the power; None where that is not within 128 bits.
+fn multiplied(digits: u128, power: u64) -> Option<u128>
+    ensures { SomeIff result (digits * 10 ^ power < 2 ^ 128) (digits * 10 ^ power) }
 {
     if digits == 0 {
         return Some(0);
     }
-    if power > 30 {
+    if power > MOST_POWER {
         return None;
     }
-    let product = digits.checked_mul(TEN.pow(power as u32))?;
-    if product > most {
-        return None;
-    }
-    Some(product)
+    digits.checked_mul(power_of_ten(power))
 }
 
 // The digits divided by ten to the power, rounded half up.
@@ -182,18 +180,24 @@ fn divided(digits: u128, power: u64) -> u128
     requires { 0 < power }
     ensures { result ≡ rounded_quotient digits (10 ^ power) }
 {
-    if power > 38 {
+    if power > MOST_POWER {
         return 0;
     }
-    let unit = TEN.pow(power as u32);
+    let unit = power_of_ten(power);
+    let whole = digits / unit;
     let rest = digits % unit;
-    if rest < unit - rest {
-        digits / unit
-    } else {
-        digits / unit + 1
-    }
+    if rest < unit - rest { whole } else { whole + 1 }
 }
 
+fn power_of_ten(power: u64) -> u128
+    requires { power ≤ 38 }
+    ensures value { result ≡ 10 ^ power }
+    ensures some { 0 < result }
+{
+    TEN.pow(power as u32)
+}
+
+// The size, below zero where `negative`.
 fn signed(negative: bool, size: u128) -> i128
     requires { size ≤ 10 ^ 30 }
     ensures { result ≡ with_sign negative size }

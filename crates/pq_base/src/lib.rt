@@ -1,4 +1,4 @@
-//! What every layer stands on: files that are read and bytes that are written by traits whose faults are counted, texts, and recordings.
+//! What every layer stands on: files that are read and bytes that are written by traits whose faults are counted, texts, numbers in text, and recordings.
 #![tactic(auto)]
 
 pub use decimal::{Scaled, read_decimal};

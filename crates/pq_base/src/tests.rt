@@ -69,6 +69,58 @@ fn failing_calls_in_memory(rt: HostRuntime) -> Result<(), Fail> {
     Ok(())
 }
 
+const MOST: u128 = 1_000_000_000_000_000_000_000_000_000_000;
+
+// What is written, and its whole picovolts where there are at most so many.
+const DECIMALS: [(&[u8], Option<i128>); 13] = [
+    (b"0.0325", Some(32_500_000_000)),
+    (b"1.525879E-02", Some(15_258_790_000)),
+    (b"2.5e-12", Some(3)),
+    (b"-2.5e-12", Some(-3)),
+    (b"-4.9e-13", Some(0)),
+    (b"1e18", Some(1_000_000_000_000_000_000_000_000_000_000)),
+    (
+        b"1.0000000000000000000000000000004e18",
+        Some(1_000_000_000_000_000_000_000_000_000_000),
+    ),
+    (b"1.0000000000000000000000000000005e18", None),
+    (b"9e999", None),
+    (b"-0e999", Some(0)),
+    (b"9e-999", Some(0)),
+    (b"1,5", None),
+    (b".", None),
+];
+
+// Numbers at the ends of their fields, and the whole of ten to the 12 times them.
+const AT_THE_ENDS: [(u128, i32, Option<i128>); 6] = [
+    (u128::MAX, -50, Some(3)),
+    (u128::MAX, -51, Some(0)),
+    (u128::MAX, i32::MIN, Some(0)),
+    (1, i32::MAX, None),
+    (0, i32::MAX, Some(0)),
+    (u128::MAX, -12, None),
+];
+
+#[test]
+fn decimals_in_picovolts(rt: HostRuntime) -> Result<(), Fail> {
+    for (text, expected) in DECIMALS {
+        let rounded = match read_decimal(text) {
+            Some(number) => number.round(12, MOST),
+            None => None,
+        };
+        assert_eq!(rt; rounded, expected);
+    }
+    for (digits, exponent, expected) in AT_THE_ENDS {
+        let number = Scaled {
+            negative: false,
+            digits,
+            exponent,
+        };
+        assert_eq!(rt; number.round(12, MOST), expected, "{digits} {exponent}");
+    }
+    Ok(())
+}
+
 #[test]
 fn real_files_and_output(rt: HostRuntime) -> Result<(), Fail> {
     let alloc = rt.alloc();
