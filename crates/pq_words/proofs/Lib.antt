@@ -5,3 +5,4 @@ pub mod StepLaws
 pub mod SuccessorLaws
 pub mod WorkedSignal
 mod StandardFacts
+pub mod ReadingLemmas

@@ -4,3 +4,4 @@ pub mod Sorted
 pub mod Successors
 pub mod Text
 pub mod Magnitude
+pub mod FirstFault

@@ -1,0 +1,103 @@
+-- What the lines of a text that says a configuration were read as, one after another.
+use Rattle.std.proofs.Common.{◌≡◌, ℕ, zero, suc, ◌+◌, ℤ, Bool, true, false, Option, Some, None, List, [], ◌∷◌, length, Result, Ok, Err, refl, ap, ◌∙◌, sym, arith}
+use Rattle.std.specs.Prelude.{◌==◌}
+use Rattle.pq_words.specs.Text.{Text}
+use Rattle.pq_words.specs.FirstFault.{◌>>=◌}
+use Rattle.pq_words.proofs.ReadingLemmas.{bind_ok}
+use Rattle.pq_time.specs.Moment.{utc_of}
+use Rattle.comtrade_cfg.specs.declared.cfg.Analogue.{Analogue}
+use Rattle.comtrade_cfg.specs.declared.cfg.StatusLine.{StatusLine}
+use Rattle.comtrade_cfg.specs.declared.cfg.Zone.{Zone}
+use Rattle.comtrade_cfg.specs.declared.cfg.FileType.{FileType}
+use Rattle.comtrade_cfg.specs.declared.head.Station.{Station}
+use Rattle.comtrade_cfg.specs.declared.head.ChannelCounts.{ChannelCounts}
+use Rattle.comtrade_cfg.specs.declared.sampling.Sampling.{Sampling}
+use Rattle.comtrade_cfg.specs.declared.fault.CfgFault.{CfgFault}
+use Rattle.comtrade_cfg.specs.Configuration.{Configuration}
+use Rattle.comtrade_cfg.specs.Fields.{Ahead, LineRule, Reading, on_line, next_line, fields_of, only_blank_lines}
+use Rattle.comtrade_cfg.specs.CfgText.{configuration_ahead, channel_lines, station_line, counts_line, analogue_line, status_line, frequency_line, rates_line, sampling_line, stamp_line, file_type_line, timemult_line, zone_lines, offset_of}
+
+-- what each line was read as, and what then lay ahead
+pub record LinesRead (start : Ahead) (c : Configuration) : Type 0 where
+  pub station : Station × Ahead
+  pub counts : ChannelCounts × Ahead
+  pub analogue : List Analogue × Ahead
+  pub status : List StatusLine × Ahead
+  pub lf : ℕ × Ahead
+  pub rates : ℕ × Ahead
+  pub sampling : Sampling × Ahead
+  pub first : ℤ × Ahead
+  pub trigger : ℤ × Ahead
+  pub file_type : FileType × Ahead
+  pub timemult : Text × Ahead
+  pub zone : Option Zone × Ahead
+  pub station_is : on_line station_line start ≡ Ok station
+  pub counts_is : on_line counts_line station.1 ≡ Ok counts
+  pub analogue_is : channel_lines analogue_line 1 counts.0.analogue counts.1 ≡ Ok analogue
+  pub status_is : channel_lines status_line 1 counts.0.status analogue.1 ≡ Ok status
+  pub lf_is : on_line frequency_line status.1 ≡ Ok lf
+  pub rates_is : on_line rates_line lf.1 ≡ Ok rates
+  pub sampling_is : on_line (sampling_line lf.0) rates.1 ≡ Ok sampling
+  pub first_is : on_line stamp_line sampling.1 ≡ Ok first
+  pub trigger_is : on_line stamp_line first.1 ≡ Ok trigger
+  pub file_type_is : on_line file_type_line trigger.1 ≡ Ok file_type
+  pub timemult_is : on_line timemult_line file_type.1 ≡ Ok timemult
+  pub zone_is : zone_lines (station.0.revision == 2013) timemult.1 ≡ Ok zone
+  pub is : record {
+    station = station.0.station;
+    device = station.0.device;
+    revision = station.0.revision;
+    analogue = analogue.0;
+    status = status.0;
+    lf = lf.0;
+    rate = sampling.0.rate;
+    endsamp = sampling.0.endsamp;
+    first = utc_of first.0 (offset_of zone.0);
+    trigger = utc_of trigger.0 (offset_of zone.0);
+    file_type = file_type.0;
+    timemult = timemult.0;
+    zone = zone.0;
+  } ≡ c
+
+-- two values that were given are one
+pub same_ok : {A E : Type 0} {x y : A} → ◌≡◌ {A = Result A E} (Ok x) (Ok y) → x ≡ y
+same_ok e = cc
+
+-- a step that found no fault, for what is shown of its value and of what came after it
+pub from_bind : {A B E : Type 0} (r : Result A E) (f : A → Result B E) (y : B) → (r >>= f) ≡ Ok y → {P : Type 0} → ((x : A) → r ≡ Ok x → f x ≡ Ok y → P) → P
+from_bind r f y e g = let b = bind_ok r f y e in g b.0 b.1 b.2
+
+pub lines_read : (start : Ahead) (c : Configuration) → configuration_ahead start ≡ Ok c → LinesRead start c
+unfolding configuration_ahead
+lines_read start c e =
+    from_bind _ _ c e (λ station station_is after_station.
+    from_bind _ _ c after_station (λ counts counts_is after_counts.
+    from_bind _ _ c after_counts (λ analogue analogue_is after_analogue.
+    from_bind _ _ c after_analogue (λ status status_is after_status.
+    from_bind _ _ c after_status (λ lf lf_is after_lf.
+    from_bind _ _ c after_lf (λ rates rates_is after_rates.
+    from_bind _ _ c after_rates (λ sampling sampling_is after_sampling.
+    from_bind _ _ c after_sampling (λ first first_is after_first.
+    from_bind _ _ c after_first (λ trigger trigger_is after_trigger.
+    from_bind _ _ c after_trigger (λ file_type file_type_is after_file_type.
+    from_bind _ _ c after_file_type (λ timemult timemult_is after_timemult.
+    from_bind _ _ c after_timemult (λ zone zone_is after_zone.
+    from_bind _ _ c after_zone (λ ended ended_is after_ended.
+    record { station = station; counts = counts; analogue = analogue; status = status; lf = lf; rates = rates; sampling = sampling; first = first; trigger = trigger; file_type = file_type; timemult = timemult; zone = zone; station_is = station_is; counts_is = counts_is; analogue_is = analogue_is; status_is = status_is; lf_is = lf_is; rates_is = rates_is; sampling_is = sampling_is; first_is = first_is; trigger_is = trigger_is; file_type_is = file_type_is; timemult_is = timemult_is; zone_is = zone_is; is = same_ok after_ended })))))))))))))
+
+-- a line was there, and its rule gave the value
+pub record LineRead {A : Type 0} (rule : LineRule A) (start : Ahead) (y : A × Ahead) : Type 0 where
+  pub line : Text
+  pub there : next_line start ≡ Ok (line, y.1)
+  pub value : rule start.number (fields_of line) ≡ Ok y.0
+
+pub line_read : {A : Type 0} (rule : LineRule A) (start : Ahead) (y : A × Ahead) → on_line rule start ≡ Ok y → LineRead rule start y
+line_read rule start y e =
+    let line = bind_ok _ _ y e in
+    let value = bind_ok _ _ y line.2 in
+    let same = same_ok value.2 in
+    record {
+      line = line.0.0;
+      there = line.1 ∙ ap (λ (z : _ × Ahead). Ok (line.0.0, z.1)) same;
+      value = value.1 ∙ ap (λ (z : _ × Ahead). Ok z.0) same;
+    }

@@ -1,0 +1,20 @@
+//! The cfg of a recording: reading, printing and the selection of channels.
+#![tactic(auto)]
+
+pub use cfg::{Analogue, Cfg, FileType, StatusLine, Zone};
+pub use fault::{CfgFault, Quantity, Unsupported};
+pub use reading::read_cfg;
+pub use selection::{SelectFault, Selection};
+
+mod blank;
+mod cfg;
+mod channels;
+mod cursor;
+mod fault;
+mod field;
+mod head;
+mod lines;
+mod reading;
+mod sampling;
+mod selection;
+mod zone;
