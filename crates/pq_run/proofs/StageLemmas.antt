@@ -32,6 +32,8 @@ explained_from course call (status.ReadFault n) reads order e =
 explained_from course call (status.WriteFault n) reads order e = record { rose = e.rose; number = e.number; taken = e.taken }
 explained_from course call status.OutOfMemory reads order e = e
 explained_from course call status.Usage reads order e = e
+explained_from course call (status.CfgFault l f) reads order e = e
+explained_from course call (status.Selection n) reads order e = e
 explained_from course call (status.Unsupported w l) reads order e = e
 explained_from course call (status.Limit w l) reads order e = e
 explained_from course call (status.DatFault k) reads order e = e

@@ -12,7 +12,7 @@ use Rattle.pq_base.specs.Sample.{sample_of}
 use Rattle.pq_items.specs.declared.item.Item.TheVariants as item
 use Rattle.pq_run.proofs.StrictCfgLemmas.{strict_none}
 use Rattle.pq_run.specs.DatRecord.{count_at, dat_fault_of, samples_of, strict_recording}
-use Rattle.pq_run.specs.Intervals.{still_course}
+use Rattle.pq_run.specs.Commands.{still_course}
 use Rattle.pq_run.specs.ReportText.{header, item_row, report_text, rows_text}
 use Rattle.pq_run.specs.Settings.{usual_limits}
 use Rattle.pq_run.specs.StatusText.{code_of, sentence_of}
@@ -20,9 +20,9 @@ use Rattle.pq_run.specs.StrictCfg.{strict_back, strict_cfg, strict_count, strict
 use Rattle.pq_run.specs.Verdict.{Job, Refused, verdict}
 use Rattle.pq_run.specs.Words.{intervals_words}
 use Rattle.pq_run.specs.declared.status.DatFault.TheVariants as dat_fault
-use Rattle.pq_run.specs.declared.status.Quantity.TheVariants as quantity
+use Rattle.comtrade_cfg.specs.declared.fault.Quantity.TheVariants as quantity
 use Rattle.pq_run.specs.declared.status.Status.TheVariants as status
-use Rattle.pq_run.specs.declared.status.Unsupported.TheVariants as unsupported
+use Rattle.comtrade_cfg.specs.declared.fault.Unsupported.TheVariants as unsupported
 use Rattle.pq_sequence.specs.BasicInterval.{basic_spans}
 use Rattle.pq_sequence.specs.MeasuredRecording.{all_events}
 use Rattle.pq_sequence.specs.SequentialResult.{items_under, sequential}

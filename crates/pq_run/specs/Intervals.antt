@@ -7,10 +7,10 @@ use Rattle.pq_run.specs.StrictCfg.{strict_count}
 use Rattle.pq_run.specs.Verdict.{Refused, Job, Course, Ends, Asks, with_file}
 use Rattle.pq_run.specs.Words.{Words, intervals_words}
 use Rattle.pq_run.specs.declared.status.DatFault.{DatFault}
-use Rattle.pq_run.specs.declared.status.Quantity.TheVariants as quantity
+use Rattle.comtrade_cfg.specs.declared.fault.Quantity.TheVariants as quantity
 use Rattle.pq_run.specs.declared.status.Status.{Status}
 use Rattle.pq_run.specs.declared.status.Status.TheVariants as status
-use Rattle.pq_run.specs.declared.status.Unsupported.TheVariants as unsupported
+use Rattle.comtrade_cfg.specs.declared.fault.Unsupported.TheVariants as unsupported
 use Rattle.pq_words.specs.Text.{Text}
 
 -- a dat of n records: its first fault, or else the report of its samples at a declared voltage
@@ -39,7 +39,3 @@ files_course udin_mv cfg_name dat_name =
 abbrev pub intervals_course : Option Words → Course Status
 intervals_course None = Ends (Refused status.Usage)
 intervals_course (Some words) = files_course words.udin_mv words.cfg words.dat
-
--- the course of `still`
-abbrev pub still_course : List Text → Course Status
-still_course words = intervals_course (intervals_words words)

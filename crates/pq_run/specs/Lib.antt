@@ -1,3 +1,5 @@
+pub mod Check
+pub mod Commands
 pub mod DatRecord
 pub mod Intervals
 pub mod ReportText

@@ -1,4 +1,4 @@
--- The subject: the words of the command `intervals` (profile).
+-- The subject: the words of the commands (profile).
 use Rattle.std.specs.Prelude.{ℕ, ◌≤◌, ◌&&◌, nat_le, if◌then◌else◌, List, [], ◌∷◌, Option, None, Some, option_map, option_and_then, codes}
 use Rattle.std.specs.Str.{bytes_eq}
 use Rattle.pq_words.specs.Text.{Text, number}
@@ -17,6 +17,11 @@ pub record IsVoltage (udin_mv : ℕ) : Type 0 where
 -- the declared voltage that a text writes: a Number in that range
 abbrev pub voltage_of : Text → Option ℕ
 voltage_of text = option_and_then (λ n. if nat_le 1 n && nat_le n 1000000000 then Some n else None) (number text)
+
+-- `check CFG`; None for any other words
+unfoldable pub check_words : List Text → Option Text
+check_words (command ∷ cfg ∷ []) = if bytes_eq command (codes "check") then Some cfg else None
+check_words _ = None
 
 -- `intervals --udin MV CFG DAT`, where MV is a declared voltage; None for any other words
 unfoldable pub intervals_words : List Text → Option Words

@@ -1,7 +1,7 @@
 //! The top calls: from words, files and a sink to a status.
 #![tactic(auto)]
 
-pub use status::{DatFault, Quantity, Status, Unsupported, fault_text};
+pub use status::{DatFault, Status, fault_text};
 pub use top_call::still;
 
 mod dat;

@@ -1,31 +1,18 @@
 // What a top call answers, with its exit code and its sentence.
 ghost use Rattle.std.specs.Prelude.{◌≡◌, ◌++◌, IfOk, string_bytes, codes, decimal};
-ghost use Rattle.pq_run.specs.StatusText.{dat_fault_text, limit_place, quantity_text, sentence_of, unsupported_text};
+ghost use Rattle.pq_run.specs.StatusText.{dat_fault_text, field_text, limit_place, quantity_text, selection_text, sentence_of, unsupported_text};
 
+use comtrade_cfg::{Quantity, Unsupported};
 use pq_base::{OutOfMemory, Text};
 use std::alloc::{AllocError, Global};
-
-/// What the profile does not support.
-#[derive(Clone, Copy, Debug, PartialEq, Eq)]
-pub enum Unsupported {
-    /// A cfg of a form that is read by a later version.
-    NotYet,
-}
-
-/// What has a limit.
-#[derive(Clone, Copy, Debug, PartialEq, Eq)]
-pub enum Quantity {
-    /// 1,048,576 bytes of a cfg.
-    CfgBytes,
-    /// 536,870,912 bytes of a dat.
-    DatBytes,
-}
 
 /// The first fault of a dat.
 #[derive(Clone, Copy, Debug, PartialEq, Eq)]
 pub enum DatFault {
     /// The bytes of record `at`, counted from 1, are not all there.
     Short { at: u64 },
+    /// Record `at` has no sample of this channel.
+    Missing { at: u64, channel: u32 },
     /// So many bytes are left after the last record.
     Long { bytes: u64 },
 }
@@ -37,10 +24,14 @@ pub enum Status {
     Done,
     /// The words are not those of a command.
     Usage,
+    /// The cfg's first fault is at this line and field; field 0 stands for the whole line.
+    CfgFault { line: u32, field: u32 },
     /// The cfg has something that is not supported; line 0 stands for no line.
     Unsupported { what: Unsupported, line: u32 },
     /// A quantity passes its limit; line 0 stands for no line.
     Limit { what: Quantity, line: u32 },
+    /// No channel of this number can be measured; 0 where none is in volts.
+    Selection { channel: u32 },
     /// The first fault of the dat.
     DatFault { kind: DatFault },
     /// A call of the shelf failed; the shelf counts so many faults.
@@ -63,8 +54,10 @@ impl Status {
         match self {
             Status::Done => 0,
             Status::Usage => 1,
+            Status::CfgFault { .. } => 2,
             Status::Unsupported { .. } => 3,
             Status::Limit { .. } => 4,
+            Status::Selection { .. } => 5,
             Status::DatFault { .. } => 7,
             Status::ReadFault { .. } => 8,
             Status::WriteFault { .. } => 9,
@@ -91,12 +84,14 @@ fn sentence(alloc: Global, status: &Status) -> Result<String, AllocError>
     match status {
         Status::Done => Ok(String::new(alloc)),
         Status::Usage => String::from_str(alloc, "usage: words not understood"),
+        Status::CfgFault { line, field } => cfg_sentence(alloc, *line, *field),
         Status::Unsupported { what, line } => unsupported_sentence(
             alloc,
             *line,
             unsupported_name(*what),
         ),
         Status::Limit { what, line } => limit_sentence(alloc, *line, quantity_name(*what)),
+        Status::Selection { channel } => selection_sentence(alloc, *channel),
         Status::DatFault { kind } => dat_sentence(alloc, *kind),
         Status::ReadFault { faults } => format!(in alloc; "read failed ({faults})"),
         Status::WriteFault { faults } => format!(in alloc; "write failed ({faults})"),
@@ -109,6 +104,28 @@ fn file_sentence(alloc: Global, file: u32) -> Result<String, AllocError>
     ensures { IfOk result (λ text. string_bytes text ≡ codes "file " ++ (decimal file ++ codes ": not found")) }
 {
     format!(in alloc; "file {file}: not found")
+}
+
+fn cfg_sentence(alloc: Global, line: u32, field: u32) -> Result<String, AllocError>
+    ensures { IfOk result (λ text. string_bytes text ≡ codes "cfg line " ++ (decimal line ++ field_text field)) }
+{
+    if field == 0 {
+        whole_line_sentence(alloc, line)
+    } else {
+        field_sentence(alloc, line, field)
+    }
+}
+
+fn whole_line_sentence(alloc: Global, line: u32) -> Result<String, AllocError>
+    ensures { IfOk result (λ text. string_bytes text ≡ codes "cfg line " ++ (decimal line ++ codes ": missing, surplus or wrong number of fields")) }
+{
+    format!(in alloc; "cfg line {line}: missing, surplus or wrong number of fields")
+}
+
+fn field_sentence(alloc: Global, line: u32, field: u32) -> Result<String, AllocError>
+    ensures { IfOk result (λ text. string_bytes text ≡ codes "cfg line " ++ (decimal line ++ (codes " field " ++ (decimal field ++ codes ": not readable")))) }
+{
+    format!(in alloc; "cfg line {line} field {field}: not readable")
 }
 
 fn unsupported_sentence(alloc: Global, line: u32, what: &str) -> Result<String, AllocError>
@@ -139,11 +156,30 @@ fn line_limit_sentence(alloc: Global, line: u32, what: &str) -> Result<String, A
     format!(in alloc; "cfg line {line}: limit passed: {what}")
 }
 
+fn selection_sentence(alloc: Global, channel: u32) -> Result<String, AllocError>
+    ensures { IfOk result (λ text. string_bytes text ≡ selection_text channel) }
+{
+    if channel == 0 {
+        String::from_str(alloc, "selection: no voltage channel")
+    } else {
+        channel_sentence(alloc, channel)
+    }
+}
+
+fn channel_sentence(alloc: Global, channel: u32) -> Result<String, AllocError>
+    ensures { IfOk result (λ text. string_bytes text ≡ codes "selection: channel " ++ decimal channel) }
+{
+    format!(in alloc; "selection: channel {channel}")
+}
+
 fn dat_sentence(alloc: Global, kind: DatFault) -> Result<String, AllocError>
     ensures { IfOk result (λ text. string_bytes text ≡ dat_fault_text kind) }
 {
     match kind {
         DatFault::Short { at } => format!(in alloc; "dat record {at}: cut off"),
+        DatFault::Missing { at, channel } => {
+            format!(in alloc; "dat record {at}: channel {channel} missing")
+        }
         DatFault::Long { bytes } => {
             format!(in alloc; "dat: {bytes} bytes after the last record")
         }
@@ -154,6 +190,11 @@ fn unsupported_name(what: Unsupported) -> &'static str
     ensures { result.now ≡ unsupported_text what }
 {
     match what {
+        Unsupported::Revision => "revision",
+        Unsupported::Frequency => "frequency",
+        Unsupported::Rates => "rates",
+        Unsupported::FileType => "file type",
+        Unsupported::LeapSecond => "leap second",
         Unsupported::NotYet => "not yet",
     }
 }
@@ -164,5 +205,13 @@ fn quantity_name(what: Quantity) -> &'static str
     match what {
         Quantity::CfgBytes => "cfg bytes",
         Quantity::DatBytes => "dat bytes",
+        Quantity::ScheduleBytes => "schedule bytes",
+        Quantity::ReportBytes => "report bytes",
+        Quantity::Analogue => "analogue channels",
+        Quantity::Status => "status channels",
+        Quantity::Samples => "samples",
+        Quantity::Rate => "rate",
+        Quantity::Value => "value",
+        Quantity::Channels => "selected channels",
     }
 }

@@ -2,28 +2,31 @@
 ghost use Rattle.std.specs.Prelude.{◌≡◌, ◌*◌, ◌≤◌, length, map, string_bytes, IfOk, IfErr, Some};
 ghost use Rattle.pq_base.specs.Outside.{Holds};
 ghost use Rattle.pq_run.specs.DatRecord.{record_bytes, samples_of, strict_recording};
-ghost use Rattle.pq_run.specs.Intervals.{counted_course, dat_course, files_course, still_course};
+ghost use Rattle.pq_run.specs.Check.{canonical_course, cfg_refusal, check_course};
+ghost use Rattle.pq_run.specs.Commands.{still_course};
+ghost use Rattle.pq_run.specs.Intervals.{counted_course, dat_course, files_course, intervals_course};
 ghost use Rattle.pq_run.specs.ReportText.{report_text};
 ghost use Rattle.pq_run.specs.Settings.{usual_limits};
 ghost use Rattle.pq_run.specs.TopCall.{IsTopCall, IsTopCallOnAnyShelf, IsTopCallOnAnySink};
-ghost use Rattle.pq_run.specs.Words.{IsVoltage};
+ghost use Rattle.pq_run.specs.Words.{IsVoltage, intervals_words};
 ghost use Rattle.pq_run.specs.declared.status.Status.TheVariants.{Limit, NoFile};
 ghost use Rattle.pq_words.specs.Text.{Text};
 ghost use Rattle.pq_run.specs.Verdict.{Asks, Course, Ends, Job, with_file};
 
 use crate::report::report;
 use crate::settings::usual_limits_of;
-use crate::status::{Quantity, Status, Unsupported};
+use crate::status::Status;
 use crate::strict_cfg::sample_count;
 use crate::{dat, words};
-use pq_base::{Failed, ReadAll, Shelf, Sink, read_all, write_all};
+use comtrade_cfg::{CfgFault, Quantity, Unsupported, print_cfg, read_cfg};
+use pq_base::{Failed, OutOfMemory, ReadAll, Shelf, Sink, read_all, write_all};
 use std::alloc::{AllocError, Global};
 
 const CFG_BYTES: u64 = 1_048_576;
 
 const DAT_BYTES: u64 = 536_870_912;
 
-/// Runs the command that the words say: `intervals --udin MV CFG DAT`. It always returns.
+/// Runs the command that the words say: `check CFG` or `intervals --udin MV CFG DAT`. It always returns.
 ///
 /// `explained`: Done only where the verdict on the words and the told files is a job, and its text was taken;
 /// a refusal only where it is the verdict, and nothing was taken; a fault of the shelf or the sink only where
@@ -35,6 +38,77 @@ pub fn still<K: Shelf, O: Sink>(
     out: &mut O,
 ) -> Status
     ensures { IsTopCall (still_course (map string_bytes words.now)) (record {
+      files = K.files shelf.old;
+      asked = K.asked shelf.new;
+      reads_before = K.faults shelf.old;
+      reads_after = K.faults shelf.new;
+      taken_before = O.taken out.old;
+      taken_after = O.taken out.new;
+      writes_before = O.faults out.old;
+      writes_after = O.faults out.new;
+    }) result }
+{
+    match words::check(words) {
+        Some(cfg) => check(alloc, cfg, shelf, out),
+        None => measure(alloc, words, shelf, out),
+    }
+}
+
+// The command `check`: the canonical text of a cfg.
+fn check<K: Shelf, O: Sink>(alloc: Global, cfg: &str, shelf: &mut K, out: &mut O) -> Status
+    ensures { IsTopCall (check_course cfg.now) (record {
+      files = K.files shelf.old;
+      asked = K.asked shelf.new;
+      reads_before = K.faults shelf.old;
+      reads_after = K.faults shelf.new;
+      taken_before = O.taken out.old;
+      taken_after = O.taken out.new;
+      writes_before = O.faults out.old;
+      writes_after = O.faults out.new;
+    }) result }
+{
+    match read_file(alloc, shelf, cfg, 1, CFG_BYTES, Quantity::CfgBytes) {
+        Ok(bytes) => write_canonical(alloc, &bytes, out),
+        Err(status) => status,
+    }
+}
+
+// The canonical text of a cfg, where it is good.
+fn write_canonical<O: Sink>(alloc: Global, cfg: &[u8], out: &mut O) -> Status
+    ensures { IsTopCallOnAnyShelf (canonical_course cfg.now) (O.taken out.old) (O.taken out.new) (O.faults out.old) (O.faults out.new) result }
+{
+    match read_cfg(alloc, cfg) {
+        Ok(cfg) => match print_cfg(alloc, &cfg) {
+            Ok(text) => write_text(text.bytes(), out),
+            Err(OutOfMemory) => Status::OutOfMemory,
+        },
+        Err(fault) => refusal(fault),
+    }
+}
+
+fn refusal(fault: CfgFault) -> Status
+    ensures { result ≡ cfg_refusal fault }
+{
+    match fault {
+        CfgFault::Line { number } => Status::CfgFault {
+            line: number,
+            field: 0,
+        },
+        CfgFault::Field { line, field } => Status::CfgFault { line, field },
+        CfgFault::Unsupported { what, line } => Status::Unsupported { what, line },
+        CfgFault::Limit { what, line } => Status::Limit { what, line },
+        CfgFault::OutOfMemory => Status::OutOfMemory,
+    }
+}
+
+// The command `intervals`, or none.
+fn measure<K: Shelf, O: Sink>(
+    alloc: Global,
+    words: &[String],
+    shelf: &mut K,
+    out: &mut O,
+) -> Status
+    ensures { IsTopCall (intervals_course (intervals_words (map string_bytes words.now))) (record {
       files = K.files shelf.old;
       asked = K.asked shelf.new;
       reads_before = K.faults shelf.old;

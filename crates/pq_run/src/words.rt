@@ -1,6 +1,6 @@
-// The words of the command `intervals`.
+// The words of the commands.
 ghost use Rattle.std.specs.Prelude.{◌≡◌, MatchOption, IfSome, None, Some, map, string_bytes};
-ghost use Rattle.pq_run.specs.Words.{IsVoltage, intervals_words, voltage_of};
+ghost use Rattle.pq_run.specs.Words.{IsVoltage, check_words, intervals_words, voltage_of};
 
 use crate::number::digits;
 
@@ -10,6 +10,20 @@ pub struct IntervalsWords<'a> {
     pub udin_mv: u64,
     pub cfg: &'a str,
     pub dat: &'a str,
+}
+
+/// Reads `check CFG`: the name of its file; None for any other words.
+#[tactic(auto, unfolding(crate::specs::Words::check_words))]
+pub fn check<'a>(words: &'a [String]) -> Option<&'a str>
+    ensures { MatchOption result (check_words (map string_bytes words.now) ≡ None) (λ cfg. check_words (map string_bytes words.now) ≡ Some cfg.now) }
+{
+    let [command, cfg] = words else {
+        return None;
+    };
+    if command.as_str() != "check" {
+        return None;
+    }
+    Some(cfg.as_str())
 }
 
 /// Reads `intervals --udin MV CFG DAT`; None for any other words.
