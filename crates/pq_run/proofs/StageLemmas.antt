@@ -33,7 +33,6 @@ explained_from course call (status.WriteFault n) reads order e = record { rose =
 explained_from course call status.OutOfMemory reads order e = e
 explained_from course call status.Usage reads order e = e
 explained_from course call (status.CfgFault l f) reads order e = e
-explained_from course call (status.Selection n) reads order e = e
 explained_from course call (status.Unsupported w l) reads order e = e
 explained_from course call (status.Limit w l) reads order e = e
 explained_from course call (status.DatFault k) reads order e = e

@@ -13,12 +13,14 @@ use Rattle.pq_items.specs.declared.item.Item.TheVariants as item
 use Rattle.pq_run.proofs.StrictCfgLemmas.{strict_none}
 use Rattle.pq_run.specs.DatRecord.{count_at, dat_fault_of, samples_of, strict_recording}
 use Rattle.pq_run.specs.Commands.{still_course}
+use Rattle.comtrade_cfg.specs.CfgText.{configuration_ahead, configuration_of, station_fields}
+use Rattle.comtrade_cfg.specs.Fields.{number_field, text_field}
 use Rattle.pq_run.specs.ReportText.{header, item_row, report_text, rows_text}
 use Rattle.pq_run.specs.Settings.{usual_limits}
 use Rattle.pq_run.specs.StatusText.{code_of, sentence_of}
 use Rattle.pq_run.specs.StrictCfg.{strict_back, strict_cfg, strict_count, strict_front}
 use Rattle.pq_run.specs.Verdict.{Job, Refused, verdict}
-use Rattle.pq_run.specs.Words.{intervals_words}
+use Rattle.pq_run.specs.Words.{check_words, intervals_words}
 use Rattle.pq_run.specs.declared.status.DatFault.TheVariants as dat_fault
 use Rattle.comtrade_cfg.specs.declared.fault.Quantity.TheVariants as quantity
 use Rattle.pq_run.specs.declared.status.Status.TheVariants as status
@@ -93,34 +95,41 @@ pub verdicts : map (verdict (still_course words))
     (files_with (strict_cfg 3) (replicate 29 0) ∷ files_with (strict_cfg 3) (replicate 31 0) ∷ Some [] ∷ Some ((codes "a.cfg", strict_cfg 3) ∷ []) ∷ None ∷ [])
     ≡ Some (Refused (status.DatFault (dat_fault.Short 3))) ∷ Some (Refused (status.DatFault (dat_fault.Long 1)))
     ∷ Some (Refused (status.NoFile 1)) ∷ Some (Refused (status.NoFile 2)) ∷ None ∷ []
-unfolding intervals_words strict_count strict_front strict_back first_between first_of digits dat_fault_of
+unfolding check_words intervals_words strict_count strict_front strict_back first_between first_of digits dat_fault_of
 verdicts = refl
 
 -- a strict cfg of no sample and an empty dat are a job: the header alone
 pub empty_job : verdict (still_course words) (files_with (strict_cfg 0) []) ≡ Some (Job (codes "kind,channel,start,end,from,to,tick,value,count,mark\n"))
-unfolding intervals_words strict_count strict_front strict_back first_between first_of digits dat_fault_of samples_of report_text header sequential in_order items_under all_events events extents event_from successors windows windows_over basic_spans cycle_boundaries boundaries first_boundary rule_of numbers_from
+unfolding check_words intervals_words strict_count strict_front strict_back first_between first_of digits dat_fault_of samples_of report_text header sequential in_order items_under all_events events extents event_from successors windows windows_over basic_spans cycle_boundaries boundaries first_boundary rule_of numbers_from
 empty_job = refl
 
 -- no file is needed for words that are not understood
 pub usage : map (λ w. verdict (still_course w) None)
     ((codes "intervals" ∷ codes "a.cfg" ∷ codes "a.dat" ∷ []) ∷ (codes "intervals" ∷ codes "--udin" ∷ codes "0" ∷ codes "a.cfg" ∷ codes "a.dat" ∷ [])
     ∷ (codes "intervals" ∷ codes "--udin" ∷ codes "1000000001" ∷ codes "a.cfg" ∷ codes "a.dat" ∷ []) ∷ (codes "intervals" ∷ codes "--udin" ∷ codes "+5" ∷ codes "a.cfg" ∷ codes "a.dat" ∷ [])
-    ∷ (codes "interval" ∷ codes "--udin" ∷ codes "1" ∷ codes "a.cfg" ∷ codes "a.dat" ∷ []) ∷ [] ∷ [])
-    ≡ replicate 6 (Some (Refused status.Usage))
-unfolding intervals_words
+    ∷ (codes "interval" ∷ codes "--udin" ∷ codes "1" ∷ codes "a.cfg" ∷ codes "a.dat" ∷ []) ∷ (codes "check" ∷ []) ∷ (codes "check" ∷ codes "a.cfg" ∷ codes "a.dat" ∷ []) ∷ [] ∷ [])
+    ≡ replicate 8 (Some (Refused status.Usage))
+unfolding check_words intervals_words
 usage = refl
+
+-- the refusals of `check`: no such file, no line, line 2 with two fields
+pub check_verdicts : map (λ f. verdict (still_course (codes "check" ∷ codes "a.cfg" ∷ [])) f)
+    (Some [] ∷ Some ((codes "a.cfg", []) ∷ []) ∷ Some ((codes "a.cfg", codes "demo,pqa,1999\n1,1A\n") ∷ []) ∷ None ∷ [])
+    ≡ Some (Refused (status.NoFile 1)) ∷ Some (Refused (status.CfgFault 1 0)) ∷ Some (Refused (status.CfgFault 2 0)) ∷ None ∷ []
+unfolding check_words configuration_of configuration_ahead station_fields text_field number_field
+check_verdicts = refl
 
 -- ---- the sentences
 
 pub sentences : map sentence_of
-    (status.Usage ∷ status.Unsupported unsupported.NotYet 0 ∷ status.Limit quantity.CfgBytes 0 ∷ status.Limit quantity.DatBytes 3 ∷ status.DatFault (dat_fault.Short 552) ∷ status.DatFault (dat_fault.Long 1)
+    (status.Usage ∷ status.CfgFault 2 0 ∷ status.CfgFault 3 13 ∷ status.Unsupported unsupported.FileType 9 ∷ status.Limit quantity.Status 2 ∷ status.Unsupported unsupported.NotYet 0 ∷ status.Limit quantity.CfgBytes 0 ∷ status.Limit quantity.DatBytes 3 ∷ status.DatFault (dat_fault.Short 552) ∷ status.DatFault (dat_fault.Long 1)
     ∷ status.ReadFault 1 ∷ status.WriteFault 2 ∷ status.OutOfMemory ∷ status.NoFile 2 ∷ status.Done ∷ [])
-    ≡ codes "usage: words not understood" ∷ codes "cfg line 0: unsupported not yet" ∷ codes "limit passed: cfg bytes" ∷ codes "cfg line 3: limit passed: dat bytes" ∷ codes "dat record 552: cut off"
+    ≡ codes "usage: words not understood" ∷ codes "cfg line 2: missing, surplus or wrong number of fields" ∷ codes "cfg line 3 field 13: not readable" ∷ codes "cfg line 9: unsupported file type" ∷ codes "cfg line 2: limit passed: status channels" ∷ codes "cfg line 0: unsupported not yet" ∷ codes "limit passed: cfg bytes" ∷ codes "cfg line 3: limit passed: dat bytes" ∷ codes "dat record 552: cut off"
     ∷ codes "dat: 1 bytes after the last record" ∷ codes "read failed (1)" ∷ codes "write failed (2)" ∷ codes "out of memory" ∷ codes "file 2: not found" ∷ [] ∷ []
 unfolding sentence_of digits
 sentences = refl
 
 pub exit_codes : map code_of
-    (status.Done ∷ status.Usage ∷ status.Unsupported unsupported.NotYet 0 ∷ status.Limit quantity.DatBytes 0 ∷ status.DatFault (dat_fault.Long 1) ∷ status.ReadFault 1 ∷ status.WriteFault 1 ∷ status.OutOfMemory ∷ status.NoFile 1 ∷ [])
-    ≡ 0 ∷ 1 ∷ 3 ∷ 4 ∷ 7 ∷ 8 ∷ 9 ∷ 11 ∷ 14 ∷ []
+    (status.Done ∷ status.Usage ∷ status.CfgFault 2 0 ∷ status.Unsupported unsupported.NotYet 0 ∷ status.Limit quantity.DatBytes 0 ∷ status.DatFault (dat_fault.Long 1) ∷ status.ReadFault 1 ∷ status.WriteFault 1 ∷ status.OutOfMemory ∷ status.NoFile 1 ∷ [])
+    ≡ 0 ∷ 1 ∷ 2 ∷ 3 ∷ 4 ∷ 7 ∷ 8 ∷ 9 ∷ 11 ∷ 14 ∷ []
 exit_codes = refl

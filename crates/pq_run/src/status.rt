@@ -1,6 +1,6 @@
 // What a top call answers, with its exit code and its sentence.
 ghost use Rattle.std.specs.Prelude.{◌≡◌, ◌++◌, IfOk, string_bytes, codes, decimal};
-ghost use Rattle.pq_run.specs.StatusText.{dat_fault_text, field_text, limit_place, quantity_text, selection_text, sentence_of, unsupported_text};
+ghost use Rattle.pq_run.specs.StatusText.{dat_fault_text, field_text, limit_place, quantity_text, sentence_of, unsupported_text};
 
 use comtrade_cfg::{Quantity, Unsupported};
 use pq_base::{OutOfMemory, Text};
@@ -11,8 +11,6 @@ use std::alloc::{AllocError, Global};
 pub enum DatFault {
     /// The bytes of record `at`, counted from 1, are not all there.
     Short { at: u64 },
-    /// Record `at` has no sample of this channel.
-    Missing { at: u64, channel: u32 },
     /// So many bytes are left after the last record.
     Long { bytes: u64 },
 }
@@ -30,8 +28,6 @@ pub enum Status {
     Unsupported { what: Unsupported, line: u32 },
     /// A quantity passes its limit; line 0 stands for no line.
     Limit { what: Quantity, line: u32 },
-    /// No channel of this number can be measured; 0 where none is in volts.
-    Selection { channel: u32 },
     /// The first fault of the dat.
     DatFault { kind: DatFault },
     /// A call of the shelf failed; the shelf counts so many faults.
@@ -57,7 +53,6 @@ impl Status {
             Status::CfgFault { .. } => 2,
             Status::Unsupported { .. } => 3,
             Status::Limit { .. } => 4,
-            Status::Selection { .. } => 5,
             Status::DatFault { .. } => 7,
             Status::ReadFault { .. } => 8,
             Status::WriteFault { .. } => 9,
@@ -91,7 +86,6 @@ fn sentence(alloc: Global, status: &Status) -> Result<String, AllocError>
             unsupported_name(*what),
         ),
         Status::Limit { what, line } => limit_sentence(alloc, *line, quantity_name(*what)),
-        Status::Selection { channel } => selection_sentence(alloc, *channel),
         Status::DatFault { kind } => dat_sentence(alloc, *kind),
         Status::ReadFault { faults } => format!(in alloc; "read failed ({faults})"),
         Status::WriteFault { faults } => format!(in alloc; "write failed ({faults})"),
@@ -156,30 +150,11 @@ fn line_limit_sentence(alloc: Global, line: u32, what: &str) -> Result<String, A
     format!(in alloc; "cfg line {line}: limit passed: {what}")
 }
 
-fn selection_sentence(alloc: Global, channel: u32) -> Result<String, AllocError>
-    ensures { IfOk result (λ text. string_bytes text ≡ selection_text channel) }
-{
-    if channel == 0 {
-        String::from_str(alloc, "selection: no voltage channel")
-    } else {
-        channel_sentence(alloc, channel)
-    }
-}
-
-fn channel_sentence(alloc: Global, channel: u32) -> Result<String, AllocError>
-    ensures { IfOk result (λ text. string_bytes text ≡ codes "selection: channel " ++ decimal channel) }
-{
-    format!(in alloc; "selection: channel {channel}")
-}
-
 fn dat_sentence(alloc: Global, kind: DatFault) -> Result<String, AllocError>
     ensures { IfOk result (λ text. string_bytes text ≡ dat_fault_text kind) }
 {
     match kind {
         DatFault::Short { at } => format!(in alloc; "dat record {at}: cut off"),
-        DatFault::Missing { at, channel } => {
-            format!(in alloc; "dat record {at}: channel {channel} missing")
-        }
         DatFault::Long { bytes } => {
             format!(in alloc; "dat: {bytes} bytes after the last record")
         }
