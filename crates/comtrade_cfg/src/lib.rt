@@ -2,6 +2,7 @@
 #![tactic(auto)]
 
 pub use cfg::{Analogue, Cfg, FileType, StatusLine, Zone};
+pub use choosing::select;
 pub use fault::{CfgFault, Quantity, Unsupported};
 pub use reading::read_cfg;
 pub use selection::{SelectFault, Selection};
@@ -9,6 +10,7 @@ pub use selection::{SelectFault, Selection};
 mod blank;
 mod cfg;
 mod channels;
+mod choosing;
 mod cursor;
 mod fault;
 mod field;
@@ -17,4 +19,7 @@ mod lines;
 mod reading;
 mod sampling;
 mod selection;
+#[cfg(test)]
+mod tests;
+mod voltage;
 mod zone;
