@@ -4,3 +4,8 @@ pub mod LinesRead
 pub mod WrittenFacts
 pub mod ConfigurationBounds
 pub mod PrintLemmas
+pub mod TwoIntervalsCfg
+mod StandardFacts
+mod OtherFacts
+pub mod ReadingSteps
+pub mod ValueLemmas

@@ -4,9 +4,10 @@ use Rattle.std.specs.Option.{ok_or, option_map_or}
 use Rattle.std.specs.List.{list_any, range_with_len}
 use Rattle.std.specs.Str.{str_eq_ignore_ascii_case}
 use Rattle.pq_words.specs.Text.{Text}
-use Rattle.pq_words.specs.FirstFault.{◌>>=◌, provided}
+use Rattle.pq_words.specs.FirstFault.{◌>>=◌, provided, GivesUnless}
 use Rattle.pq_base.specs.Decimal.{decimal_of, shifted}
 use Rattle.comtrade_cfg.specs.declared.cfg.Analogue.{Analogue}
+use Rattle.comtrade_cfg.specs.declared.selection.Selection.{Selection}
 use Rattle.comtrade_cfg.specs.declared.selection.SelectFault.{SelectFault}
 use Rattle.comtrade_cfg.specs.declared.selection.SelectFault.TheVariants as fault
 use Rattle.comtrade_cfg.specs.Configuration.{Configuration}
@@ -91,6 +92,18 @@ selected_of c wanted reference = do
   index ← reference_index positions reference
   values ← values_within_limit c.analogue positions
   Ok (record { positions = positions; reference = index })
+
+-- what a part of selecting may answer: the value, seen by view, the first fault, or want of memory
+abbrev pub Gives : {X Y : Type 0} → (X → Y) → Result X SelectFault → Result Y SelectFault → Type 0
+Gives view result read = GivesUnless fault.OutOfMemory view result read
+
+-- what a selection in memory says
+abbrev pub seen : Selection → Selected
+seen s = record { positions = s.positions.items; reference = s.reference }
+
+-- what `select` may answer: the selection, the first fault, or want of memory
+abbrev pub GivesSelection : Result Selection SelectFault → Result Selected SelectFault → Type 0
+GivesSelection result read = Gives seen result read
 
 -- a selection that `select` gives of a configuration
 abbrev pub IsSelectionOf : Configuration → Selected → Type 0

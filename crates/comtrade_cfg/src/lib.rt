@@ -2,6 +2,7 @@
 #![tactic(auto)]
 
 pub use cfg::{Analogue, Cfg, FileType, StatusLine, Zone};
+pub use choosing::select;
 pub use fault::{CfgFault, Quantity, Unsupported};
 pub use print::print_cfg;
 pub use reading::read_cfg;
@@ -10,6 +11,7 @@ pub use selection::{SelectFault, Selection};
 mod blank;
 mod cfg;
 mod channels;
+mod choosing;
 mod cursor;
 mod fault;
 mod field;
@@ -22,4 +24,7 @@ mod print_stamp;
 mod reading;
 mod sampling;
 mod selection;
+#[cfg(test)]
+mod tests;
+mod voltage;
 mod zone;

@@ -1,0 +1,63 @@
+// Channels of voltage, and how great their samples may be.
+ghost use Rattle.std.specs.Prelude.{◌≡◌, ◌≤◌, ◌^◌, None, Some, if◌then◌else◌, nat_le, unsigned_abs, IfSome, is_some};
+ghost use Rattle.comtrade_cfg.specs.Selecting.{unit_power, picovolts, is_within_value_limit, is_voltage_channel};
+
+use crate::cfg::Analogue;
+use crate::field::is_word;
+use pq_base::read_decimal;
+
+const MOST_PICOVOLTS: u128 = 10_000_000_000_000_000_000;
+
+// The power of ten of the picovolts in a unit of voltage, V or kV.
+pub(crate) fn unit_power(unit: &[u8]) -> Option<u32>
+    ensures value { result ≡ unit_power unit.now }
+    ensures within { IfSome result (λ p. p ≤ 15) }
+{
+    if is_word(unit, b"V") {
+        return Some(12);
+    }
+    if is_word(unit, b"kV") {
+        return Some(15);
+    }
+    None
+}
+
+// The magnitude of a coefficient in picovolts, where it is within the limit by itself.
+#[tactic(auto, using(crate::proofs::ValueLemmas::sign_abs))]
+fn magnitude(power: u32, text: &[u8]) -> Option<u128>
+    requires { power ≤ 15 }
+    ensures value { result ≡ (if nat_le (unsigned_abs (picovolts power text.now)) (10 ^ 19) then Some (unsigned_abs (picovolts power text.now)) else None) }
+    ensures within { IfSome result (λ n. n ≤ 10 ^ 19) }
+{
+    let Some(value) = read_decimal(text) else {
+        return Some(0);
+    };
+    Some(value.round(power, MOST_PICOVOLTS)?.unsigned_abs())
+}
+
+// Whether no count makes a sample past the limit.
+pub(crate) fn is_within_value_limit(channel: &Analogue) -> bool
+    ensures { result ≡ is_within_value_limit channel.now }
+{
+    let power = unit_power(channel.unit.bytes()).unwrap_or(0);
+    match (
+        magnitude(power, channel.a.bytes()),
+        magnitude(power, channel.b.bytes()),
+    ) {
+        (Some(a), Some(b)) => a * 32767 + b <= MOST_PICOVOLTS,
+        _ => false,
+    }
+}
+
+// Whether the channel of this number, from 1, is there and in V or kV.
+pub(crate) fn is_voltage_channel(channels: &[Analogue], number: u32) -> bool
+    ensures { result ≡ is_voltage_channel channels.now number }
+{
+    if number == 0 {
+        return false;
+    }
+    match channels.get(number as usize - 1) {
+        Some(channel) => unit_power(channel.unit.bytes()).is_some(),
+        None => false,
+    }
+}
