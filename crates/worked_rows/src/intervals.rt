@@ -1,9 +1,11 @@
 // The command `intervals` on worked recordings, and on shelves and sinks that fail.
+use crate::outside::{Outside, WHOLE, run};
 use crate::signal::{Signal, dat, strict_cfg};
-use pq_base::{MemShelf, MemSink};
-use pq_run::{DatFault, Quantity, Status, Unsupported, still};
-use std::alloc::{AllocError, Global};
+use comtrade_cfg::{Quantity, Unsupported};
+use pq_run::{DatFault, Status};
 use std::test::Fail;
+
+const WORDS: [&str; 5] = ["intervals", "--udin", "230000", "a.cfg", "a.dat"];
 
 const HEADER: &str = "kind,channel,start,end,from,to,tick,value,count,mark\n";
 
@@ -30,57 +32,6 @@ dip,1,252,336,,,,114896273,0,closed
 basic,1,264,504,,,,211869380,10,flagged
 ";
 
-// How the outside behaves: which calls fail, and how large a piece is.
-#[derive(Clone, Copy)]
-struct Outside<'a> {
-    read_fails: &'a [u64],
-    read_piece: u64,
-    write_fails: &'a [u64],
-    write_piece: u64,
-}
-
-const WHOLE: Outside<'static> = Outside {
-    read_fails: &[],
-    read_piece: 1_000_000,
-    write_fails: &[],
-    write_piece: 1_000_000,
-};
-
-// The status of a run, and the bytes that were taken.
-#[derive(Drop)]
-struct Outcome {
-    status: Status,
-    taken: Vec<u8>,
-}
-
-fn words(alloc: Global) -> Result<Vec<String>, AllocError> {
-    let mut words = Vec::new(alloc);
-    for word in ["intervals", "--udin", "230000", "a.cfg", "a.dat"] {
-        words.push(String::from_str(alloc, word)?)?;
-    }
-    Ok(words)
-}
-
-fn run(
-    alloc: Global,
-    cfg: &[u8],
-    dat: Option<&[u8]>,
-    outside: Outside<'_>,
-) -> Result<Outcome, Fail> {
-    let mut files = vec![in alloc; (String::from_str(alloc, "a.cfg")?, cfg.to_vec(alloc)?)]?;
-    if let Some(dat) = dat {
-        files.push((String::from_str(alloc, "a.dat")?, dat.to_vec(alloc)?))?;
-    }
-    let read_fails = outside.read_fails.to_vec(alloc)?;
-    let write_fails = outside.write_fails.to_vec(alloc)?;
-    let mut shelf = MemShelf::new(files, read_fails, outside.read_piece.max(1));
-    let room = 100_000;
-    let mut sink = MemSink::new(alloc, room, write_fails, outside.write_piece.max(1))?;
-    let status = still(alloc, &words(alloc)?, &mut shelf, &mut sink);
-    let taken = sink.taken().to_vec(alloc)?;
-    Ok(Outcome { status, taken })
-}
-
 // Recordings of worked signals, in pieces of every size.
 #[test]
 fn worked_recordings(rt: HostRuntime) -> Result<(), Fail> {
@@ -101,7 +52,7 @@ fn worked_recordings(rt: HostRuntime) -> Result<(), Fail> {
                 write_piece: piece,
                 ..WHOLE
             };
-            let ran = run(alloc, &cfg, Some(&bytes), outside)?;
+            let ran = run(alloc, &WORDS, Some(&cfg), Some(&bytes), outside)?;
             assert_eq!(rt; ran.status, Status::Done, "{n} samples");
             assert_eq!(rt; ran.taken.as_slice(), text.as_bytes(), "{n} samples");
         }
@@ -140,7 +91,7 @@ fn refused_files(rt: HostRuntime) -> Result<(), Fail> {
         (b"demo".as_slice(), None, not_yet),
         (large.as_slice(), None, over),
     ] {
-        let ran = run(alloc, cfg, dat, WHOLE)?;
+        let ran = run(alloc, &WORDS, Some(cfg), dat, WHOLE)?;
         assert_eq!(rt; ran.status, status);
         assert_eq!(rt; ran.taken.len(), 0);
     }
@@ -158,7 +109,7 @@ fn failing_calls(rt: HostRuntime) -> Result<(), Fail> {
         write_piece: 100,
         ..WHOLE
     };
-    let ran = run(alloc, &cfg, Some(&bytes), second_write)?;
+    let ran = run(alloc, &WORDS, Some(&cfg), Some(&bytes), second_write)?;
     assert_eq!(rt; ran.status, Status::WriteFault { faults: 1 });
     assert_eq!(rt; ran.taken.as_slice(), &TWO_ROWS.as_bytes()[..100]);
 
@@ -168,19 +119,15 @@ fn failing_calls(rt: HostRuntime) -> Result<(), Fail> {
             read_fails: &[call],
             ..WHOLE
         };
-        let ran = run(alloc, &cfg, Some(&bytes), outside)?;
+        let ran = run(alloc, &WORDS, Some(&cfg), Some(&bytes), outside)?;
         assert_eq!(rt; ran.status, Status::ReadFault { faults: 1 }, "call {call}");
         assert_eq!(rt; ran.taken.len(), 0, "call {call}");
     }
-    let ran = run(
-        alloc,
-        &cfg,
-        Some(&bytes),
-        Outside {
-            read_fails: &[6],
-            ..WHOLE
-        },
-    )?;
+    let seventh_read = Outside {
+        read_fails: &[6],
+        ..WHOLE
+    };
+    let ran = run(alloc, &WORDS, Some(&cfg), Some(&bytes), seventh_read)?;
     assert_eq!(rt; ran.status, Status::Done);
     assert_eq!(rt; ran.taken.as_slice(), TWO_ROWS.as_bytes());
     Ok(())
@@ -190,23 +137,25 @@ fn failing_calls(rt: HostRuntime) -> Result<(), Fail> {
 #[test]
 fn words_that_are_not_understood(rt: HostRuntime) -> Result<(), Fail> {
     let alloc = rt.alloc();
-    for said in [
-        ["intervals", "--udin", "0", "a.cfg", "a.dat"],
-        ["intervals", "--udin", "1000000001", "a.cfg", "a.dat"],
-        ["intervals", "--udin", "00000000001", "a.cfg", "a.dat"],
-        ["intervals", "--udin", "+1", "a.cfg", "a.dat"],
-        ["analyse", "--udin", "1", "a.cfg", "a.dat"],
-        ["intervals", "a.cfg", "a.dat", "--udin", "1"],
-    ] {
-        let mut words = Vec::new(alloc);
-        for word in said {
-            words.push(String::from_str(alloc, word)?)?;
-        }
-        let mut shelf = MemShelf::new(Vec::new(alloc), vec![in alloc; 0]?, 1);
-        let mut sink = MemSink::new(alloc, 100, Vec::new(alloc), 1)?;
-        let status = still(alloc, &words, &mut shelf, &mut sink);
-        assert_eq!(rt; status, Status::Usage);
-        assert_eq!(rt; sink.taken().len(), 0);
+    let said: [&[&str]; 9] = [
+        &["intervals", "--udin", "0", "a.cfg", "a.dat"],
+        &["intervals", "--udin", "1000000001", "a.cfg", "a.dat"],
+        &["intervals", "--udin", "00000000001", "a.cfg", "a.dat"],
+        &["intervals", "--udin", "+1", "a.cfg", "a.dat"],
+        &["analyse", "--udin", "1", "a.cfg", "a.dat"],
+        &["intervals", "a.cfg", "a.dat", "--udin", "1"],
+        &["check"],
+        &["check", "a.cfg", "a.dat"],
+        &[],
+    ];
+    for words in said {
+        let outside = Outside {
+            read_fails: &[0],
+            ..WHOLE
+        };
+        let ran = run(alloc, words, None, None, outside)?;
+        assert_eq!(rt; ran.status, Status::Usage);
+        assert_eq!(rt; ran.taken.len(), 0);
     }
     Ok(())
 }

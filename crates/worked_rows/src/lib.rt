@@ -2,6 +2,10 @@
 #![tactic(auto)]
 
 #[cfg(test)]
+mod check;
+#[cfg(test)]
 mod intervals;
+#[cfg(test)]
+mod outside;
 #[cfg(test)]
 mod signal;
