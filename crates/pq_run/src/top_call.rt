@@ -102,12 +102,7 @@ fn refusal(fault: CfgFault) -> Status
 }
 
 // The command `intervals`, or none.
-fn measure<K: Shelf, O: Sink>(
-    alloc: Global,
-    words: &[String],
-    shelf: &mut K,
-    out: &mut O,
-) -> Status
+fn measure<K: Shelf, O: Sink>(alloc: Global, words: &[String], shelf: &mut K, out: &mut O) -> Status
     ensures { IsTopCall (intervals_course (intervals_words (map string_bytes words.now))) (record {
       files = K.files shelf.old;
       asked = K.asked shelf.new;
