@@ -1,0 +1,4 @@
+pub mod Run
+pub mod Chopper
+pub mod Places
+pub mod WholeList

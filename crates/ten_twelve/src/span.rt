@@ -1,0 +1,8 @@
+// A span of places or of indices.
+
+/// From a place or an index up to another.
+#[derive(Clone, Copy, Debug, PartialEq, Eq)]
+pub struct Span {
+    pub start: u64,
+    pub end: u64,
+}
