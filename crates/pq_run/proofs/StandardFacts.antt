@@ -25,13 +25,16 @@ use Rattle.pq_run.specs.declared.status.DatFault.TheVariants as dat_fault
 use Rattle.comtrade_cfg.specs.declared.fault.Quantity.TheVariants as quantity
 use Rattle.pq_run.specs.declared.status.Status.TheVariants as status
 use Rattle.comtrade_cfg.specs.declared.fault.Unsupported.TheVariants as unsupported
-use Rattle.pq_sequence.specs.BasicInterval.{basic_spans}
-use Rattle.pq_sequence.specs.MeasuredRecording.{all_events}
+use Rattle.pq_sequence.specs.BasicInterval.{basic_runs, front_of, fronts}
+use Rattle.pq_sequence.specs.MeasuredRecording.{all_events, tick_places}
 use Rattle.pq_sequence.specs.SequentialResult.{items_under, sequential}
+use Rattle.pq_time.specs.Tick.{ticks}
+use Rattle.pq_time.specs.Time.{place_of, time_of}
+use Rattle.ten_twelve.specs.Run.{runs}
 use Rattle.pq_words.proofs.WorkedSignal.{sampled, sine_count}
 use Rattle.pq_words.specs.First.{first_between, first_of}
 use Rattle.pq_words.specs.Sorted.{in_order, put_in_order}
-use Rattle.pq_words.specs.Steps.{numbers_from}
+use Rattle.pq_words.specs.Steps.{numbers_from, steps_from}
 use Rattle.pq_words.specs.Successors.{successors}
 use Rattle.pq_words.specs.Text.{Text}
 use Rattle.zero_cross.specs.Boundary.{boundaries, cycle_boundaries, first_boundary, next_boundary, rule_of}
@@ -48,7 +51,7 @@ rows = refl
 -- two_intervals, to the byte
 pub two_intervals : report_text (strict_recording (sampled sine_count 32_500 552)) (usual_limits 230000)
     ≡ codes "kind,channel,start,end,from,to,tick,value,count,mark\nbasic,1,24,264,,,,229805362,10,clear\nbasic,1,264,504,,,,229805362,10,clear\n"
-unfolding report_text header item_row sequential in_order put_in_order items_under all_events events extents event_from event_over successors windows windows_over window_between class_of limits_of basic_spans is_touched cycle_boundaries boundaries first_boundary next_boundary rule_of first_between first_of sampled sine_count numbers_from rms mean_square isqrt root_in digits
+unfolding report_text header item_row sequential in_order put_in_order items_under all_events events extents event_from event_over successors windows windows_over window_between class_of limits_of tick_places ticks place_of time_of fronts front_of basic_runs runs is_touched cycle_boundaries boundaries first_boundary next_boundary rule_of first_between first_of sampled sine_count numbers_from steps_from rms mean_square isqrt root_in digits
 two_intervals = refl
 
 -- ---- the dat
@@ -100,7 +103,7 @@ verdicts = refl
 
 -- a strict cfg of no sample and an empty dat are a job: the header alone
 pub empty_job : verdict (still_course words) (files_with (strict_cfg 0) []) ≡ Some (Job (codes "kind,channel,start,end,from,to,tick,value,count,mark\n"))
-unfolding check_words intervals_words strict_count strict_front strict_back first_between first_of digits dat_fault_of samples_of report_text header sequential in_order items_under all_events events extents event_from successors windows windows_over basic_spans cycle_boundaries boundaries first_boundary rule_of numbers_from
+unfolding check_words intervals_words strict_count strict_front strict_back first_between first_of digits dat_fault_of samples_of report_text header sequential in_order items_under all_events events extents event_from successors windows windows_over tick_places ticks place_of time_of fronts front_of basic_runs runs cycle_boundaries boundaries first_boundary rule_of numbers_from steps_from
 empty_job = refl
 
 -- no file is needed for words that are not understood

@@ -1,29 +1,10 @@
--- Basic intervals, one after another.
-use Rattle.std.proofs.Common.{◌≡◌, ℕ, ◌+◌, ◌-◌, ◌*◌, ◌/◌, ◌<◌, ◌==◌, Bool, true, false, if◌then◌else◌, List, [], ◌∷◌, ◌++◌, length, map, ◌≤◌, sym, ◌∙◌, ap, subst, arith, append_assoc}
-use Rattle.std.proofs.Math.Nat.{mul-le-mul_left}
-use Rattle.std.proofs.lemmas.List.{map-append}
-use Rattle.pq_sequence.specs.BasicInterval.{AreBoundaries, basic_span, cycles_of}
-use Rattle.pq_sequence.specs.declared.span.Span.{Span}
-use Rattle.pq_words.proofs.StepLaws.{map_below_push}
-use Rattle.pq_words.specs.Steps.{numbers_below}
-
--- what is made of the first n intervals, and of one more
-one_more : {X : Type 0} (f : Span → X) (cycles : ℕ) (boundaries : List ℕ) (n : ℕ)
-    → map f (map (basic_span cycles boundaries) (numbers_below (n + 1))) ≡ map f (map (basic_span cycles boundaries) (numbers_below n)) ++ f (basic_span cycles boundaries n) ∷ []
-one_more f cycles boundaries n =
-    ap (map f) (map_below_push (basic_span cycles boundaries) n) ∙ map-append f (map (basic_span cycles boundaries) (numbers_below n)) (basic_span cycles boundaries n ∷ [])
-
--- a list with what is made of the first n intervals, and with what is made of one more
-pub one_pushed : {X : Type 0} (f : Span → X) (cycles : ℕ) (boundaries : List ℕ) (n : ℕ) (x : X) (span : Span) (old before after : List X)
-    → before ≡ old ++ map f (map (basic_span cycles boundaries) (numbers_below n)) → x ≡ f span → span ≡ basic_span cycles boundaries n → after ≡ before ++ x ∷ []
-    → after ≡ old ++ map f (map (basic_span cycles boundaries) (numbers_below (n + 1)))
-one_pushed f cycles boundaries n x span old before after so_far made here pushed =
-    let spans = map (basic_span cycles boundaries) (numbers_below n) in
-    pushed
-    ∙ ap (λ xs. xs ++ x ∷ []) so_far
-    ∙ ap (λ x. (old ++ map f spans) ++ x ∷ []) (made ∙ ap f here)
-    ∙ append_assoc old (map f spans) (f (basic_span cycles boundaries n) ∷ [])
-    ∙ ap (λ xs. old ++ xs) (sym (one_more f cycles boundaries n))
+-- Basic intervals as runs of cycles.
+use Rattle.std.proofs.Common.{◌≡◌, ℕ, zero, suc, ◌+◌, ◌-◌, ◌<◌, ◌==◌, Bool, true, false, if◌then◌else◌, List, length, All, arith}
+use Rattle.std.proofs.lemmas.List.Elements.{All-cons, All-filter, All-map, All-nil, All-weaker}
+use Rattle.pq_sequence.specs.BasicInterval.{AreBoundaries, IsRun, basic_span, cycles_of}
+use Rattle.pq_words.specs.Steps.{numbers_below, numbers_from}
+use Rattle.ten_twelve.specs.Run.{begins_run, run_from, runs}
+use Rattle.ten_twelve.specs.declared.span.Span.{Span}
 
 -- an interval has cycles
 pub some_cycles : (lf cycles : ℕ) → cycles ≡ cycles_of lf → 0 < cycles
@@ -33,17 +14,22 @@ some_cycles lf cycles is = at (lf == 50) is
     at true is = omega (arith, is)
     at false is = omega (arith, is)
 
--- the last boundary of an interval is there
-pub last_inside : (boundaries cycles n count : ℕ) → 0 < cycles → count ≡ (boundaries - 1) / cycles → n < count → cycles * (n + 1) < boundaries
-last_inside boundaries cycles n count some is inside =
-    let least : cycles * (n + 1) ≤ cycles * count = mul-le-mul_left cycles (omega (arith, inside)) in
-    let most : cycles * count ≤ boundaries - 1 = subst (λ k. cycles * k ≤ boundaries - 1) (sym is) (omega (arith, some)) in
-    let more : cycles * (n + 1) ≡ cycles * n + cycles = omega arith in
-    omega (arith, least, most, more, some)
+numbers_lie : (low n : ℕ) → All (λ x. x < low + n) (numbers_from low n)
+unfolding numbers_from
+numbers_lie low zero = All-nil (λ x. x < low + 0)
+numbers_lie low (suc n) =
+    All-cons (λ x. x < low + suc n) low (numbers_from (low + 1) n) (omega arith)
+    (All-weaker (λ x. x < low + 1 + n) (λ x. x < low + suc n) (λ x h. omega (arith, h)) (numbers_from (low + 1) n) (numbers_lie (low + 1) n))
+
+-- the cycles of a run lie between boundaries
+pub runs_lie : (starts : List ℕ) (cycles boundaries : ℕ) → 0 < cycles → All (IsRun boundaries) (runs starts cycles (boundaries - 1))
+unfolding runs
+runs_lie starts cycles boundaries some =
+    let n = boundaries - 1 + 1 - cycles in
+    All-map (IsRun boundaries) (run_from cycles) _
+    (All-filter (begins_run starts cycles) (λ x. IsRun boundaries (run_from cycles x)) (numbers_below n)
+    (All-weaker (λ x. x < 0 + n) (λ x. IsRun boundaries (run_from cycles x)) (λ x h. record { some = omega (arith, some); there = omega (arith, some, h) }) (numbers_below n) (numbers_lie 0 n)))
 
 -- an interval ends after its start
-pub starts_before : (cycles n count : ℕ) (boundaries : List ℕ) → 0 < cycles → cycles * (n + 1) < length boundaries → AreBoundaries boundaries count
-    → (basic_span cycles boundaries n).start < (basic_span cycles boundaries n).end
-starts_before cycles n count boundaries some inside are =
-    let less : cycles * n < cycles * (n + 1) = omega (arith, some) in
-    are.rising (cycles * n) (cycles * (n + 1)) 0 less inside
+pub starts_before : (boundaries : List ℕ) (count : ℕ) (run : Span) → IsRun (length boundaries) run → AreBoundaries boundaries count → (basic_span boundaries run).start < (basic_span boundaries run).end
+starts_before boundaries count run is are = are.rising run.start run.end 0 is.some is.there

@@ -1,5 +1,5 @@
 -- The sequential result: its items, their range and its cuts.
-use Rattle.std.proofs.Common.{◌≡◌, ◌⊎◌, ℕ, ◌<◌, ◌≤◌, ◌==◌, ◌/◌, ◌-◌, Bool, true, false, if◌then◌else◌, List, length, map, All, slice_index_or, refl, subst, arith, inl, inr}
+use Rattle.std.proofs.Common.{◌≡◌, ◌⊎◌, ℕ, ◌<◌, ◌≤◌, ◌==◌, Bool, true, false, if◌then◌else◌, List, length, map, All, slice_index_or, refl, subst, arith, inl, inr}
 use Rattle.std.proofs.lemmas.List.Elements.{All-append, All-map, All-weaker}
 use Rattle.std.proofs.lemmas.List.Sorted.{All-permutation}
 use Rattle.event_detect.specs.declared.event.Event.{Event}
@@ -10,13 +10,12 @@ use Rattle.half_cycle.proofs.WindowBounds.{windows_lie}
 use Rattle.pq_base.specs.Recorded.{Recorded, IsRecording, sample_count, samples_at}
 use Rattle.pq_items.specs.ItemOrder.{item_cmp}
 use Rattle.pq_items.specs.ItemRange.{IsItemInRange}
-use Rattle.pq_sequence.specs.BasicInterval.{basic_span, basic_spans, cycles_of}
-use Rattle.pq_sequence.specs.MeasuredRecording.{recorded_events, recorded_rule, recorded_spans, recorded_windows, reference_cycles}
+use Rattle.pq_sequence.specs.BasicInterval.{basic_runs, basic_span, cycles_of}
+use Rattle.pq_sequence.specs.MeasuredRecording.{clock_of, recorded_events, recorded_rule, recorded_spans, recorded_windows, reference_cycles, tick_places}
 use Rattle.pq_sequence.specs.SequentialResult.{all_items, basic_item, event_item, item_of_kind, items_under, number_of, sequential}
-use Rattle.pq_sequence.specs.declared.span.Span.{Span}
 use Rattle.pq_sequence.proofs.PlaceLaws.{IsPlaced, all_placed, cycles_lie, looked_up}
 use Rattle.pq_words.proofs.SortedLaws.{in_order_permutes}
-use Rattle.pq_words.specs.Steps.{numbers_below}
+use Rattle.ten_twelve.specs.declared.span.Span.{Span}
 use Rattle.zero_cross.specs.Boundary.{IsRule}
 
 -- the rule of a recording is one
@@ -71,13 +70,11 @@ event_in_range r e is placed = at e.kind
     at Interruption = record { start = start; end = end; frequency = λ rank. absurd (omega (arith, rank)); others = λ rank. number; fields = tt }
 
 spans_lie : (r : Recorded) → IsRecording r → All (λ span. (span.start ≤ sample_count r) × (span.end ≤ sample_count r)) (recorded_spans r)
-unfolding basic_spans
 spans_lie r is =
-    let cycles = cycles_of r.lf in
     let boundaries = reference_cycles r in
     let same : length (samples_at r r.reference) ≡ sample_count r = is.even r.reference (omega (arith, is.reference, is.paired)) in
     let lie : All (λ k. k < sample_count r) boundaries = subst (λ n. All (λ k. k < n) boundaries) same (cycles_lie (samples_at r r.reference) (recorded_rule r) (rule_of_recording r is)) in
-    All-map (λ (span : Span). (span.start ≤ sample_count r) × (span.end ≤ sample_count r)) (basic_span cycles boundaries) (numbers_below ((length boundaries - 1) / cycles))
+    All-map (λ (span : Span). (span.start ≤ sample_count r) × (span.end ≤ sample_count r)) (basic_span boundaries) (basic_runs (cycles_of r.lf) boundaries (tick_places (clock_of r) (sample_count r)))
     (λ k d inside. (looked_up boundaries _ (sample_count r) lie, looked_up boundaries _ (sample_count r) lie))
 
 -- all items of a recording are in range

@@ -1,5 +1,5 @@
 -- Worked recordings with their whole results, so that a wrong rule in the specs does not check.
-use Rattle.std.proofs.Common.{◌≡◌, ◌*◌, ◌^◌, ℕ, ℤ, List, [], ◌∷◌, map, replicate, true, false, refl, pos}
+use Rattle.std.proofs.Common.{◌≡◌, ◌*◌, ◌^◌, ℕ, ℤ, List, [], ◌∷◌, map, replicate, true, false, refl, pos, neg_ℤ, ◌+ℤ◌, ◌*ℤ◌}
 use Rattle.pq_base.specs.Recorded.{Recorded}
 use Rattle.event_detect.specs.declared.limits.Limits.{Limits}
 use Rattle.event_detect.specs.Threshold.{limits_of, class_of}
@@ -8,29 +8,37 @@ use Rattle.event_detect.specs.VoltageEvent.{event_from, extents, event_over, eve
 use Rattle.pq_items.specs.declared.item.Item.{Item}
 use Rattle.pq_items.specs.declared.item.Item.TheVariants as item
 use Rattle.pq_items.specs.ItemOrder.{item_end}
-use Rattle.pq_sequence.specs.BasicInterval.{basic_spans}
-use Rattle.pq_sequence.specs.MeasuredRecording.{all_events}
+use Rattle.pq_sequence.specs.BasicInterval.{basic_runs, front_of, fronts}
+use Rattle.pq_sequence.specs.MeasuredRecording.{all_events, clock_of, tick_places}
 use Rattle.pq_sequence.specs.SequentialResult.{items_under, sequential, cut, end_at}
+use Rattle.pq_time.specs.Tick.{ticks}
+use Rattle.pq_time.specs.Time.{place_of, time_of}
+use Rattle.ten_twelve.specs.Run.{runs}
 use Rattle.half_cycle.specs.HalfCycleWindow.{window_between, windows_over, windows}
 use Rattle.fixed_rms.specs.Root.{root_in, isqrt, mean_square, rms}
 use Rattle.zero_cross.specs.Boundary.{rule_of, first_boundary, next_boundary, boundaries, cycle_boundaries}
 use Rattle.pq_words.specs.First.{first_of, first_between}
 use Rattle.pq_words.specs.Successors.{successors}
 use Rattle.pq_words.specs.Sorted.{put_in_order, in_order}
-use Rattle.pq_words.specs.Steps.{numbers_from}
+use Rattle.pq_words.specs.Steps.{numbers_from, steps_from}
 use Rattle.pq_words.proofs.WorkedSignal.{sine_count, square_count, replaced, sampled, halved}
 
 -- 230 V with the usual thresholds: dip 900, swell 1100, interruption 50 and hysteresis 20 thousandths
 abbrev usual : Limits
 usual = limits_of (record { udin_mv = 230_000; dip = 900; swell = 1100; interruption = 50; hysteresis = 20 })
 
--- channel 1 at 1200 Hz and 50 Hz, from a second after noon of 1 March 2024
+-- channel 1 at 1200 Hz and 50 Hz, from so many milliseconds after noon of 1 March 2024
+abbrev from_noon : ℤ → List ℤ → Recorded
+from_noon milliseconds samples =
+    record { t0 = (pos (1_709_294_400 * 10 ^ 3) +ℤ milliseconds) *ℤ pos (10 ^ 6); rate = 1_200_000_000; lf = 50; numbers = 1 ∷ []; reference = 0; samples = samples ∷ [] }
+
+-- from a second after noon
 abbrev recorded : List ℤ → Recorded
-recorded samples = record { t0 = pos (1_709_294_401 * 10 ^ 9); rate = 1_200_000_000; lf = 50; numbers = 1 ∷ []; reference = 0; samples = samples ∷ [] }
+recorded samples = from_noon (pos 1000) samples
 
 -- what a result computes by
 unfoldable computed : Recorded → Limits → List Item
-unfolding sequential items_under all_events limits_of class_of is_touched event_from extents event_over events basic_spans windows window_between windows_over root_in isqrt mean_square rms rule_of first_boundary next_boundary boundaries cycle_boundaries first_of first_between successors put_in_order in_order numbers_from sine_count sampled square_count
+unfolding sequential items_under all_events limits_of class_of is_touched event_from extents event_over events tick_places ticks place_of time_of fronts front_of basic_runs runs windows window_between windows_over root_in isqrt mean_square rms rule_of first_boundary next_boundary boundaries cycle_boundaries first_of first_between successors put_in_order in_order numbers_from steps_from sine_count sampled square_count
 computed r limits = sequential r limits
 
 -- a sine in 552 samples has two basic intervals, and no event
@@ -38,6 +46,42 @@ pub two_intervals : sequential (recorded (sampled sine_count 32_500 552)) usual
     ≡ item.Basic 1 24 264 10 229_805_362 false ∷ item.Basic 1 264 504 10 229_805_362 false ∷ []
 unfolding computed
 two_intervals = refl
+
+-- noon is at place 594, and its front at 600: the interval over it is completed, and overlaps the first one after it
+pub interval_over_tick : sequential (from_noon (neg_ℤ (pos 495)) (sampled sine_count 32_500 1200)) usual
+    ≡ item.Basic 1 24 264 10 229_805_362 false ∷ item.Basic 1 264 504 10 229_805_362 false ∷ item.Basic 1 504 744 10 229_805_362 false
+    ∷ item.Basic 1 600 840 10 229_805_362 false ∷ item.Basic 1 840 1080 10 229_805_362 false ∷ []
+unfolding computed
+interval_over_tick = refl
+
+-- noon before the first boundary, before the last boundary, which no cycle follows, or at the end of the recording, interrupts no interval
+pub ticks_at_the_edges : (sequential (from_noon (neg_ℤ (pos 10)) (sampled sine_count 32_500 552)) usual
+    ≡ item.Basic 1 24 264 10 229_805_362 false ∷ item.Basic 1 264 504 10 229_805_362 false ∷ [])
+    × (sequential (from_noon (neg_ℤ (pos 430)) (sampled sine_count 32_500 552)) usual
+    ≡ item.Basic 1 24 264 10 229_805_362 false ∷ item.Basic 1 264 504 10 229_805_362 false ∷ [])
+    × (sequential (from_noon (neg_ℤ (pos 460)) (sampled sine_count 32_500 552)) usual
+    ≡ item.Basic 1 24 264 10 229_805_362 false ∷ item.Basic 1 264 504 10 229_805_362 false ∷ [])
+unfolding computed
+ticks_at_the_edges = (refl, refl, refl)
+
+-- noon at the start of a recording with no sample, in a recording, at its end, and not at all
+pub known_places : (tick_places (record { t0 = pos (1_709_294_400 * 10 ^ 9); rate = 800_000_000 }) 0 ≡ 0 ∷ [])
+    × (tick_places (clock_of (from_noon (neg_ℤ (pos 495)) [])) 1200 ≡ 594 ∷ []) × (tick_places (clock_of (from_noon (neg_ℤ (pos 460)) [])) 552 ≡ 552 ∷ [])
+    × (tick_places (clock_of (from_noon (pos 1000) [])) 552 ≡ [])
+unfolding computed
+known_places = (refl, refl, refl, refl)
+
+-- places before the first boundary, at one, between two, twice between two, before the last, and after it
+pub known_fronts : map (fronts (10 ∷ 20 ∷ 30 ∷ [])) ((5 ∷ []) ∷ (20 ∷ []) ∷ (15 ∷ []) ∷ (15 ∷ 18 ∷ []) ∷ (12 ∷ 25 ∷ []) ∷ (31 ∷ []) ∷ [])
+    ≡ (0 ∷ []) ∷ (0 ∷ 1 ∷ []) ∷ (0 ∷ 1 ∷ []) ∷ (0 ∷ 1 ∷ []) ∷ (0 ∷ 1 ∷ 2 ∷ []) ∷ (0 ∷ []) ∷ []
+unfolding fronts front_of first_between first_of
+known_fronts = refl
+
+-- a run of two over a front is completed; a front with no cycle after it begins none; with no boundary there is none
+pub known_runs : (basic_runs 2 (0 ∷ 10 ∷ 20 ∷ 30 ∷ 40 ∷ 50 ∷ []) (25 ∷ []) ≡ record { start = 0; end = 2 } ∷ record { start = 2; end = 4 } ∷ record { start = 3; end = 5 } ∷ [])
+    × (basic_runs 2 (0 ∷ 10 ∷ 20 ∷ 30 ∷ []) (25 ∷ []) ≡ record { start = 0; end = 2 } ∷ []) × (basic_runs 2 [] (25 ∷ []) ≡ [])
+unfolding basic_runs runs fronts front_of first_between first_of numbers_from
+known_runs = (refl, refl, refl)
 
 -- the crossing at place 504 counts only where it has a sample
 pub crossing_without_sample : (sequential (recorded (sampled sine_count 32_500 504)) usual ≡ item.Basic 1 24 264 10 229_805_362 false ∷ [])

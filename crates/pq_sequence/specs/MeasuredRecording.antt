@@ -1,6 +1,6 @@
 -- The subject: what is measured of a recording of one channel, before it is put in order.
 -- Sections are those of IEC 61000-4-30:2015; "profile" marks a choice of this project.
-use Rattle.std.specs.Prelude.{ℕ, Bool, List, [], ◌∷◌, map, flat_map}
+use Rattle.std.specs.Prelude.{ℕ, ℤ, Bool, List, [], ◌∷◌, map, flat_map}
 use Rattle.pq_base.specs.Recorded.{Recorded, sample_count, samples_at}
 use Rattle.zero_cross.specs.declared.rule.Rule.{Rule}
 use Rattle.zero_cross.specs.Boundary.{rule_of, cycle_boundaries}
@@ -14,7 +14,10 @@ use Rattle.event_detect.specs.declared.window.Window.{Window}
 use Rattle.event_detect.specs.Threshold.{class_of}
 use Rattle.event_detect.specs.VoltageEvent.{Condition, events}
 use Rattle.pq_sequence.specs.BasicInterval.{cycles_of, basic_spans}
-use Rattle.pq_sequence.specs.declared.span.Span.{Span}
+use Rattle.pq_time.specs.declared.clock.Clock.{Clock}
+use Rattle.pq_time.specs.Tick.{moment_of, ticks}
+use Rattle.pq_time.specs.Time.{place_of}
+use Rattle.ten_twelve.specs.declared.span.Span.{Span}
 
 -- how far apart the recording's boundaries are (profile)
 abbrev pub recorded_rule : Recorded → Rule
@@ -24,9 +27,21 @@ recorded_rule r = rule_of r.rate r.lf
 abbrev pub reference_cycles : Recorded → List ℕ
 reference_cycles r = cycle_boundaries (samples_at r r.reference) (recorded_rule r)
 
+-- when the samples are taken (profile)
+abbrev pub clock_of : Recorded → Clock
+clock_of r = record { t0 = r.t0; rate = r.rate }
+
+-- the place of a tick, a UTC second, among n samples (profile)
+abbrev pub tick_place : Clock → ℕ → ℤ → ℕ
+tick_place clock n second = place_of clock (moment_of second) n
+
+-- the places of the 10-minute ticks, at which basic intervals begin anew (4.5)
+unfoldable pub tick_places : Clock → ℕ → List ℕ
+tick_places clock n = map (tick_place clock n) (ticks clock n 600)
+
 -- the spans of the basic intervals, the same for all channels (4.5)
 abbrev pub recorded_spans : Recorded → List Span
-recorded_spans r = basic_spans (cycles_of r.lf) (reference_cycles r)
+recorded_spans r = basic_spans (cycles_of r.lf) (reference_cycles r) (tick_places (clock_of r) (sample_count r))
 
 -- the half-cycle windows of the channel (5.4)
 abbrev pub recorded_windows : Recorded → List Window

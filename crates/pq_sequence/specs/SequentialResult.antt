@@ -14,8 +14,8 @@ use Rattle.event_detect.specs.declared.limits.Limits.{Limits}
 use Rattle.event_detect.specs.Flag.{is_touched}
 use Rattle.pq_sequence.specs.BasicInterval.{cycles_of}
 use Rattle.pq_sequence.specs.MeasuredRecording.{recorded_spans, recorded_events}
-use Rattle.pq_sequence.specs.declared.span.Span.{Span}
 use Rattle.pq_words.specs.Sorted.{in_order}
+use Rattle.ten_twelve.specs.declared.span.Span.{Span}
 
 -- the number of the channel at a position
 abbrev pub number_of : Recorded → ℕ → ℕ

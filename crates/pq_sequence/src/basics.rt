@@ -1,57 +1,69 @@
 // Basic intervals, with their values and flags.
-ghost use Rattle.std.specs.Prelude.{◌≡◌, ◌<◌, ◌≤◌, ◌*◌, ◌+◌, ◌-◌, ◌/◌, ◌++◌, length, map, OnOk};
+ghost use Rattle.std.specs.Prelude.{◌≡◌, ◌<◌, ◌≤◌, ◌-◌, ◌++◌, length, map, All, IfOk, OnOk};
 ghost use Rattle.event_detect.specs.Flag.{is_touched, overlaps};
 ghost use Rattle.pq_base.specs.Recorded.{sample_count};
-ghost use Rattle.pq_sequence.specs.BasicInterval.{AreBoundaries, basic_span, basic_spans, cycles_of};
+ghost use Rattle.pq_sequence.specs.BasicInterval.{AreBoundaries, IsRun, basic_span, cycles_of};
 ghost use Rattle.pq_sequence.specs.SequentialResult.{basic_item};
+ghost use Rattle.ten_twelve.specs.Run.{AreStarts, runs};
 
 use crate::cycles::cycles_of_line;
-use crate::span::Span;
 use event_detect::Event;
 use fixed_rms::rms;
 use pq_base::Recording;
 use pq_items::Item;
-use std::alloc::AllocError;
+use std::alloc::{AllocError, Global};
+use ten_twelve::{OutOfMemory, Span, chop};
 
-/// How many whole intervals of so many cycles lie between the boundaries.
-pub fn basic_count(boundaries: &[u64], cycles: usize) -> usize
-    requires { 0 < cycles }
-    ensures { result ≡ (length boundaries.now - 1) / cycles }
+/// The basic intervals as runs of cycles, from each front on.
+pub fn basic_runs(
+    alloc: Global,
+    fronts: &[u64],
+    boundaries: &[u64],
+    lf: u32,
+) -> Result<Vec<Span>, AllocError>
+    requires { AreStarts fronts.now (length boundaries.now - 1) }
+    ensures value { IfOk result
+        (λ found. found.items ≡ runs fronts.now (cycles_of lf) (length boundaries.now - 1)) }
+    ensures within { IfOk result (λ found. All (IsRun (length boundaries.now)) found.items) }
 {
-    boundaries.len().saturating_sub(1) / cycles
+    let count = boundaries.len().saturating_sub(1) as u64;
+    match chop(alloc, fronts, cycles_of_line(lf), count) {
+        Ok(found) => Ok(found),
+        Err(OutOfMemory) => Err(AllocError),
+    }
 }
 
-/// Adds the whole basic intervals of the first channel, one after another from the first cycle on.
+/// Adds the basic intervals of the first channel, one of each run of cycles.
 pub fn push_basics(
     items: &mut Vec<Item>,
     recording: &Recording,
     boundaries: &[u64],
+    runs: &[Span],
     events: &[Event],
 ) -> Result<(), AllocError>
     requires channel { 0 < length recording.now.numbers }
     requires boundaries { AreBoundaries boundaries.now (sample_count recording.now) }
+    requires runs { All (IsRun (length boundaries.now)) runs.now }
     ensures { OnOk result
         (items.new.items ≡ items.old.items
         ++ map (basic_item recording.now events.now 0)
-        (basic_spans (cycles_of recording.now.lf) boundaries.now)) }
+        (map (basic_span boundaries.now) runs.now)) }
 {
-    let cycles = cycles_of_line(recording.lf());
-    for position in 0..basic_count(boundaries, cycles) {
-        let span = span_at(boundaries, cycles, position);
+    for run in runs {
+        let span = span_of(boundaries, *run);
         items.push(basic(recording, events, span))?;
     }
     Ok(())
 }
 
-// The span of the basic interval at a position.
-fn span_at(boundaries: &[u64], cycles: usize, position: usize) -> Span
-    requires some { 0 < cycles }
-    requires there { cycles * (position + 1) < length boundaries.now }
-    ensures { result ≡ basic_span cycles boundaries.now position }
+// A run of cycles as a span of places.
+fn span_of(boundaries: &[u64], run: Span) -> Span
+    requires { IsRun (length boundaries.now) run }
+    ensures { result ≡ basic_span boundaries.now run }
 {
     Span {
-        start: boundaries[cycles * position],
-        end: boundaries[cycles * (position + 1)],
+        start: boundaries[run.start as usize],
+        end: boundaries[run.end as usize],
     }
 }
 
@@ -67,7 +79,7 @@ fn basic(recording: &Recording, events: &[Event], span: Span) -> Item
         channel: recording.number(0),
         start: span.start,
         end: span.end,
-        cycles: cycles_of_line(recording.lf()) as u64,
+        cycles: cycles_of_line(recording.lf()),
         value: rms(&samples[span.start as usize..span.end as usize]),
         flagged: is_touched(events, span),
     }

@@ -7,7 +7,7 @@ use std::alloc::{AllocError, Global};
 use zero_cross::{Rule, first, next};
 
 /// How many cycles a basic interval has: 10 at 50 Hz, 12 at 60 Hz.
-pub fn cycles_of_line(lf: u32) -> usize
+pub fn cycles_of_line(lf: u32) -> u64
     ensures { result ≡ cycles_of lf }
 {
     if lf == 50 { 10 } else { 12 }

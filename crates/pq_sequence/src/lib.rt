@@ -6,8 +6,8 @@ pub use sequential::sequence;
 mod basics;
 mod cycles;
 mod events;
+mod fronts;
 mod sequential;
-mod span;
 #[cfg(test)]
 mod tests;
 mod windows;

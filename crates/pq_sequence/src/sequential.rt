@@ -1,26 +1,30 @@
 // The sequential result.
 ghost use Rattle.std.specs.Prelude.{◌≡◌, ◌<◌, ◌++◌, length, map, All, IfOk, OnOk};
 ghost use Rattle.event_detect.specs.Threshold.{IsInOrder};
-ghost use Rattle.pq_base.specs.Recorded.{sample_count};
+ghost use Rattle.pq_base.specs.Recorded.{IsRecording, sample_count};
 ghost use Rattle.pq_items.specs.ItemRange.{IsItemInRange};
-ghost use Rattle.pq_sequence.specs.BasicInterval.{AreBoundaries};
-ghost use Rattle.pq_sequence.specs.MeasuredRecording.{recorded_events as events_of_recording, recorded_rule, reference_cycles as cycles_of_recording};
+ghost use Rattle.pq_sequence.specs.BasicInterval.{AreBoundaries, IsRun, basic_runs, cycles_of};
+ghost use Rattle.pq_sequence.specs.MeasuredRecording.{clock_of, recorded_events as events_of_recording, recorded_rule, reference_cycles as cycles_of_recording, tick_places};
 ghost use Rattle.pq_sequence.specs.SequentialResult.{all_items as items_of_recording, event_item, item_of_kind, sequential};
+ghost use Rattle.pq_time.specs.Time.{IsClock};
 ghost use Rattle.zero_cross.specs.Boundary.{IsRule};
 
-use crate::basics::{basic_count, push_basics};
-use crate::cycles::{cycle_boundaries, cycles_of_line};
+use crate::basics::{basic_runs, push_basics};
+use crate::cycles::cycle_boundaries;
 use crate::events::all_events;
+use crate::fronts::all_fronts;
 use crate::windows::all_windows;
 use event_detect::{Event, Kind, Limits};
 use pq_base::{OutOfMemory, Recording};
 use pq_items::{Item, sort_items};
+use pq_time::Clock;
 use std::alloc::{AllocError, Global};
+use ten_twelve::Span;
 use zero_cross::Rule;
 
-/// All items of a recording of one channel, in order: its basic intervals, each flagged where some
-/// event of the whole recording touches it, and its dips, swells and interruptions
-/// (IEC 61000-4-30:2015, 4.5, 4.7, 5.2, 5.4, 5.5).
+/// All items of a recording of one channel, in order: its basic intervals, which begin anew at each
+/// 10-minute tick of its clock, each flagged where some event of the whole recording touches it, and
+/// its dips, swells and interruptions (IEC 61000-4-30:2015, 4.5, 4.7, 5.2, 5.4, 5.5).
 ///
 /// # Errors
 ///
@@ -54,9 +58,9 @@ fn all_items(alloc: Global, recording: &Recording, limits: &Limits) -> Result<Ve
 {
     let events = recorded_events(alloc, recording, limits)?;
     let boundaries = reference_cycles(alloc, recording)?;
-    let basics = basic_count(&boundaries, cycles_of_line(recording.lf()));
-    let mut items = Vec::with_capacity(alloc, basics + events.len())?;
-    push_basics(&mut items, recording, &boundaries, &events)?;
+    let runs = recorded_runs(alloc, recording, &boundaries)?;
+    let mut items = Vec::with_capacity(alloc, runs.len() + events.len())?;
+    push_basics(&mut items, recording, &boundaries, &runs, &events)?;
     push_event_items(&mut items, recording, &events)?;
     Ok(items)
 }
@@ -82,6 +86,35 @@ fn reference_cycles(alloc: Global, recording: &Recording) -> Result<Vec<u64>, Al
 {
     let samples = recording.samples(recording.reference());
     cycle_boundaries(alloc, samples, &recorded_rule(recording))
+}
+
+// The basic intervals as runs of cycles, that begin anew at the ticks of the recording's clock.
+fn recorded_runs(
+    alloc: Global,
+    recording: &Recording,
+    boundaries: &[u64],
+) -> Result<Vec<Span>, AllocError>
+    requires { AreBoundaries boundaries.now (sample_count recording.now) }
+    ensures value { IfOk result
+        (λ runs. runs.items
+        ≡ basic_runs (cycles_of recording.now.lf) boundaries.now
+        (tick_places (clock_of recording.now) (sample_count recording.now))) }
+    ensures within { IfOk result (λ runs. All (IsRun (length boundaries.now)) runs.items) }
+    ensures conditions { IsRecording recording.now }
+{
+    let fronts = all_fronts(alloc, boundaries, &clock_of(recording), recording.len())?;
+    basic_runs(alloc, &fronts, boundaries, recording.lf())
+}
+
+// When the samples are taken.
+fn clock_of(recording: &Recording) -> Clock
+    ensures value { result ≡ clock_of recording.now }
+    ensures clock { IsClock result }
+{
+    Clock {
+        t0: recording.t0(),
+        rate: recording.rate(),
+    }
 }
 
 // How far apart the recording's boundaries are.

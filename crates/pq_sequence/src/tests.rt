@@ -77,21 +77,26 @@ fn samples(alloc: Global, signal: Signal, n: usize) -> Result<Vec<i64>, AllocErr
     Ok(samples)
 }
 
-// A recording of channel 1 at 1200 Hz and 50 Hz.
-fn recording(alloc: Global, signal: Signal, n: usize) -> Result<Recording, AllocError>
+// So many milliseconds after noon of 1 March 2024.
+fn moment(milliseconds: i16) -> i64
+    ensures { IsWithin (8 * 10 ^ 18) result }
+{
+    1_709_294_400_000_000_000 + i64::from(milliseconds) * 1_000_000
+}
+
+// A recording of channel 1 at 1200 Hz and 50 Hz, from so many milliseconds after noon.
+fn recording(
+    alloc: Global,
+    signal: Signal,
+    milliseconds: i16,
+    n: usize,
+) -> Result<Recording, AllocError>
     requires { n ≤ 10_000 }
     ensures { IfOk result (λ recording. length recording.numbers ≡ 1) }
 {
     let samples = vec![in alloc; samples(alloc, signal, n)?]?;
     let numbers = vec![in alloc; 1u32]?;
-    Ok(Recording::new(
-        1_709_294_401_000_000_000,
-        1_200_000_000,
-        50,
-        numbers,
-        0,
-        samples,
-    ))
+    Ok(Recording::new(moment(milliseconds), 1_200_000_000, 50, numbers, 0, samples))
 }
 
 // 230 V with the usual thresholds.
@@ -164,12 +169,18 @@ fn worked_recordings(rt: HostRuntime) -> Result<(), Fail> {
         then: 12_651,
         after: 12_420,
     };
-    // The signal, its number of samples and the items.
-    let rows: [(Signal, usize, &[Item]); 8] = [
-        (Signal::Sine, 0, &[]),
-        (Signal::Sine, 504, &[basic(24, 264, 229_805_362, false)]),
+    // The signal, the first moment in milliseconds after noon, the number of samples and the items.
+    let rows: [(Signal, i16, usize, &[Item]); 12] = [
+        (Signal::Sine, 1000, 0, &[]),
         (
             Signal::Sine,
+            1000,
+            504,
+            &[basic(24, 264, 229_805_362, false)],
+        ),
+        (
+            Signal::Sine,
+            1000,
             552,
             &[
                 basic(24, 264, 229_805_362, false),
@@ -178,6 +189,7 @@ fn worked_recordings(rt: HostRuntime) -> Result<(), Fail> {
         ),
         (
             Signal::Halved,
+            1000,
             552,
             &[
                 basic(24, 264, 229_805_362, true),
@@ -187,6 +199,7 @@ fn worked_recordings(rt: HostRuntime) -> Result<(), Fail> {
         ),
         (
             edge,
+            1000,
             552,
             &[
                 basic(24, 264, 230_000_000, false),
@@ -195,6 +208,7 @@ fn worked_recordings(rt: HostRuntime) -> Result<(), Fail> {
         ),
         (
             dipped,
+            1000,
             552,
             &[
                 basic(24, 264, 230_000_000, false),
@@ -204,6 +218,7 @@ fn worked_recordings(rt: HostRuntime) -> Result<(), Fail> {
         ),
         (
             swollen,
+            1000,
             552,
             &[
                 basic(24, 264, 230_000_000, false),
@@ -213,6 +228,7 @@ fn worked_recordings(rt: HostRuntime) -> Result<(), Fail> {
         ),
         (
             Signal::Silence,
+            1000,
             1200,
             &[
                 basic(0, 240, 0, true),
@@ -223,10 +239,50 @@ fn worked_recordings(rt: HostRuntime) -> Result<(), Fail> {
                 INTERRUPTION,
             ],
         ),
+        // Noon at place 594, whose front is at 600; before the first boundary; before the last one; at the end.
+        (
+            Signal::Sine,
+            -495,
+            1200,
+            &[
+                basic(24, 264, 229_805_362, false),
+                basic(264, 504, 229_805_362, false),
+                basic(504, 744, 229_805_362, false),
+                basic(600, 840, 229_805_362, false),
+                basic(840, 1080, 229_805_362, false),
+            ],
+        ),
+        (
+            Signal::Sine,
+            -10,
+            552,
+            &[
+                basic(24, 264, 229_805_362, false),
+                basic(264, 504, 229_805_362, false),
+            ],
+        ),
+        (
+            Signal::Sine,
+            -430,
+            552,
+            &[
+                basic(24, 264, 229_805_362, false),
+                basic(264, 504, 229_805_362, false),
+            ],
+        ),
+        (
+            Signal::Sine,
+            -460,
+            552,
+            &[
+                basic(24, 264, 229_805_362, false),
+                basic(264, 504, 229_805_362, false),
+            ],
+        ),
     ];
-    for (signal, n, wanted) in rows {
+    for (signal, milliseconds, n, wanted) in rows {
         assert!(rt; n <= 10_000);
-        let recording = recording(alloc, signal, n)?;
+        let recording = recording(alloc, signal, milliseconds, n)?;
         let Ok(items) = sequence(alloc, &recording, &limits) else {
             return Err(Fail::from(AllocError));
         };

@@ -1,0 +1,67 @@
+// Fronts: the cycles at which basic intervals begin anew.
+ghost use Rattle.std.specs.Prelude.{◌≡◌, ◌-◌, ◌≤◌, ◌++◌, length, IfOk, OnOk, option_to_list};
+ghost use Rattle.std.specs.List.Sorted.{IsNonDecreasing};
+ghost use Rattle.pq_sequence.specs.BasicInterval.{AreBoundaries, front_of, fronts};
+ghost use Rattle.pq_sequence.specs.MeasuredRecording.{tick_place, tick_places};
+ghost use Rattle.pq_time.specs.Tick.{IsTick};
+ghost use Rattle.pq_time.specs.Time.{IsClock};
+ghost use Rattle.ten_twelve.specs.Run.{AreStarts};
+
+use pq_time::Clock;
+use std::alloc::{AllocError, Global};
+
+// Seconds between two ticks.
+const TEN_MINUTES: u64 = 600;
+
+const NANOSECONDS_IN_SECOND: i64 = 1_000_000_000;
+
+/// The fronts by index of their cycle: 0, and that of each 10-minute tick among n samples.
+pub fn all_fronts(
+    alloc: Global,
+    boundaries: &[u64],
+    clock: &Clock,
+    n: u64,
+) -> Result<Vec<u64>, AllocError>
+    requires boundaries { AreBoundaries boundaries.now n }
+    requires clock { IsClock clock.now }
+    requires places { n ≤ 50_000_000 }
+    ensures value { IfOk result
+        (λ found. found.items ≡ fronts boundaries.now (tick_places clock.now n)) }
+    ensures within { IfOk result (λ found. AreStarts found.items (length boundaries.now - 1)) }
+{
+    let mut found = vec![in alloc; 0u64]?;
+    for second in clock.ticks(n, TEN_MINUTES) {
+        let place = tick_place(clock, n, second);
+        push_front(&mut found, front_of(boundaries, place))?;
+    }
+    found.dedup();
+    Ok(found)
+}
+
+// The place of a tick.
+fn tick_place(clock: &Clock, n: u64, second: i64) -> u64
+    requires clock { IsClock clock.now }
+    requires places { n ≤ 50_000_000 }
+    requires tick { IsTick clock.now n 600 second }
+    ensures { result ≡ tick_place clock.now n second }
+{
+    clock.place_of(second * NANOSECONDS_IN_SECOND, n)
+}
+
+// The first cycle boundary at the place or after it, by index.
+fn front_of(boundaries: &[u64], place: u64) -> Option<u64>
+    requires { IsNonDecreasing boundaries.now }
+    ensures { result ≡ front_of boundaries.now place }
+{
+    let index = boundaries.partition_point(|boundary| *boundary < place);
+    (index < boundaries.len()).then_some(index as u64)
+}
+
+fn push_front(found: &mut Vec<u64>, front: Option<u64>) -> Result<(), AllocError>
+    ensures { OnOk result (found.new.items ≡ found.old.items ++ option_to_list front) }
+{
+    if let Some(front) = front {
+        found.push(front)?;
+    }
+    Ok(())
+}
