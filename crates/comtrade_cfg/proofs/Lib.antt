@@ -1,2 +1,6 @@
 pub mod LineLemmas
 pub mod ChannelLemmas
+pub mod LinesRead
+pub mod WrittenFacts
+pub mod ConfigurationBounds
+pub mod PrintLemmas

@@ -3,6 +3,7 @@
 
 pub use cfg::{Analogue, Cfg, FileType, StatusLine, Zone};
 pub use fault::{CfgFault, Quantity, Unsupported};
+pub use print::print_cfg;
 pub use reading::read_cfg;
 pub use selection::{SelectFault, Selection};
 
@@ -14,6 +15,10 @@ mod fault;
 mod field;
 mod head;
 mod lines;
+mod print;
+mod print_channels;
+mod print_number;
+mod print_stamp;
 mod reading;
 mod sampling;
 mod selection;
