@@ -4,3 +4,4 @@ pub mod LinesRead
 pub mod WrittenFacts
 pub mod ConfigurationBounds
 pub mod PrintLemmas
+pub mod ReadBackText
