@@ -5,3 +5,4 @@ pub mod WrittenFacts
 pub mod ConfigurationBounds
 pub mod PrintLemmas
 pub mod ReadBackText
+pub mod CanonicalFacts
