@@ -220,7 +220,8 @@ hexadecimal_small (c ∷ []) n e = at (nat_lt (digit_value c) 16) refl e
     at false is e = absurd cc
 hexadecimal_small (c ∷ d ∷ more) n e = absurd cc
 
-quality_small : (line : ℕ) (fields : List Text) (x : ℕ × ℕ) → time_quality_line line fields ≡ Ok x → x.0 < 16
+-- the time quality of a line is a hexadecimal digit
+pub quality_small : (line : ℕ) (fields : List Text) (x : ℕ × ℕ) → time_quality_line line fields ≡ Ok x → x.0 < 16
 quality_small line [] x e = absurd cc
 quality_small line (a ∷ []) x e = absurd cc
 quality_small line (tmq_code ∷ leapsec ∷ []) x e =
@@ -266,7 +267,8 @@ stamp_within start y e =
     let m = s.2 in
     subst (IsWithin (7_300 * 10 ^ 15)) m.is (moment_within m.day m.clock (civil m.day (date_civil s.0 m.day m.day_is)) (time_clock s.1 m.clock m.clock_is))
 
-bounded : (start : Ahead) (c : Configuration) → LinesRead start c → IsBounded c
+-- what was read from lines is bounded
+pub bounded : (start : Ahead) (c : Configuration) → LinesRead start c → IsBounded c
 bounded start c r =
     let counts = line_read counts_line r.station.1 r.counts r.counts_is in
     let few = counts_small r.station.1.number (fields_of counts.line) r.counts.0 counts.value in

@@ -6,3 +6,4 @@ pub mod ConfigurationBounds
 pub mod PrintLemmas
 pub mod ReadBackText
 pub mod CanonicalFacts
+pub mod ReadBackFacts
