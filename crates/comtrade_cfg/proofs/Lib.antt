@@ -7,3 +7,4 @@ pub mod PrintLemmas
 pub mod ReadBackText
 pub mod CanonicalFacts
 pub mod ReadBackFacts
+pub mod ReadBackNumbers
