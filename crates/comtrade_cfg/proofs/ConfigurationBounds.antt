@@ -179,7 +179,8 @@ pub day_between : (d : CivilDate) → IsCivil d → IsBetween (neg_ℤ (pos 25_5
 unfolding date_in
 day_between d c = written_day (date_in d c) (omega (arith, signed_arith, c.from)) (omega (arith, signed_arith, c.until))
 
-nanoseconds_bound : (t : TimeOfDay) → IsClockTime t → nanoseconds_in_day t < 86_400_000_000_000
+-- a time of day is less than a day
+pub nanoseconds_bound : (t : TimeOfDay) → IsClockTime t → nanoseconds_in_day t < 86_400_000_000_000
 nanoseconds_bound t c = omega (arith, c.hour, c.minute, c.second, c.nanosecond)
 
 -- a moment from 1900 to 2199

@@ -8,3 +8,4 @@ pub mod ReadBackText
 pub mod CanonicalFacts
 pub mod ReadBackFacts
 pub mod ReadBackNumbers
+pub mod ReadBackMoments
