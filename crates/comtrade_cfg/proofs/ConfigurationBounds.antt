@@ -164,7 +164,7 @@ civil d is =
     }
 
 -- the same date as jiff has it
-pub date_in : (d : CivilDate) → IsCivil d → Date
+abbrev pub date_in : (d : CivilDate) → IsCivil d → Date
 date_in d c = record {
   year = pos d.year;
   month = d.month;
@@ -176,7 +176,6 @@ date_in d c = record {
 
 -- its day number
 pub day_between : (d : CivilDate) → IsCivil d → IsBetween (neg_ℤ (pos 25_567)) (pos 84_005) (day_number d)
-unfolding date_in
 day_between d c = written_day (date_in d c) (omega (arith, signed_arith, c.from)) (omega (arith, signed_arith, c.until))
 
 -- a time of day is less than a day
