@@ -9,3 +9,4 @@ pub mod CanonicalFacts
 pub mod ReadBackFacts
 pub mod ReadBackNumbers
 pub mod ReadBackMoments
+pub mod ReadBackRate
