@@ -1,9 +1,10 @@
 -- A sampling rate, a time quality and a local code that were printed are read back.
 use Rattle.std.proofs.Common.{◌≡◌, ℕ, zero, suc, ◌+◌, ◌-◌, ◌*◌, ◌/◌, ◌%◌, ◌^◌, ◌<◌, ◌≤◌, ◌⊎◌, inl, inr, ◌==◌, ◌||◌, ◌&&◌, nat_le, nat_lt, Bool, true, false, cond, ℤ, pos, negsuc, neg_ℤ, ◌+ℤ◌, ◌-ℤ◌, List, [], ◌∷◌, ◌++◌, map, length, Option, Some, None, Result, Ok, refl, sym, subst, ap, ◌∙◌, arith, add-one, append_assoc}
-use Rattle.std.specs.Prelude.{decimal, codes, option_map}
+use lib.Pointwise.{pointwise}
+use Rattle.std.specs.Prelude.{nat_eq, decimal, codes, option_map}
 use Rattle.std.specs.Option.{option_map_or, ForSome}
 use Rattle.std.specs.List.{list_any, list_all, slice_split}
-use Rattle.std.specs.Char.{is_ascii_digit, digit_value}
+use Rattle.std.specs.Char.{is_ascii_digit, digit_value, to_ascii_lowercase}
 use Rattle.std.specs.Str.{str_eq_ignore_ascii_case}
 use Rattle.std.specs.Str.Parse.{digits_value, digits_value_after}
 use Rattle.std.specs.Fmt.{digits}
@@ -19,11 +20,12 @@ use Rattle.pq_base.specs.declared.decimal.Scaled.{Scaled}
 use Rattle.pq_base.specs.Decimal.{decimal_of, signed_text, is_exponent_mark, mantissa_of, scaled_by, shifted}
 use Rattle.pq_base.proofs.DecimalLemmas.{decimal_without}
 use Rattle.pq_base.proofs.DigitsLemmas.{digits_joined}
-use Rattle.comtrade_cfg.specs.Canonical.{rate_text, hexadecimal_text, code_text}
+use Rattle.pq_time.specs.Written.{code_of}
+use Rattle.comtrade_cfg.specs.Canonical.{rate_text, hexadecimal_text, offset_text, code_text}
 use Rattle.comtrade_cfg.specs.CanonicalParts.{local_code_text}
 use Rattle.comtrade_cfg.specs.Fields.{hexadecimal, leap_digit, local_code_of}
 use Rattle.comtrade_cfg.proofs.ReadBackText.{or_false, split_free, split_at}
-use Rattle.comtrade_cfg.proofs.ReadBackNumbers.{digits_back, decimal_digits, decimal_within, padded_digits, padded_after, length-padded, digits_free, IsPlain, plain_joined, plain_decimal, plain_padded}
+use Rattle.comtrade_cfg.proofs.ReadBackNumbers.{digits_back, decimal_digits, decimal_within, padded_digits, padded_after, length-padded, digits_free, is_plain, IsPlain, plain_joined, plain_decimal, plain_padded}
 use Rattle.comtrade_cfg.proofs.ReadBackMoments.{BeginsWithDigit, decimal_begins, code_back}
 
 -- ---- decimals
@@ -114,3 +116,72 @@ plain_rate rate few = at (rate % 10 ^ 6 == 0)
     at : (b : Bool) → IsPlain (decimal (rate / 10 ^ 6) ++ cond b [] (46 ∷ padded 6 (rate % 10 ^ 6)))
     at true = plain_joined (decimal (rate / 10 ^ 6)) [] (plain_decimal (rate / 10 ^ 6) (omega (arith, few))) refl
     at false = plain_joined (decimal (rate / 10 ^ 6)) (46 ∷ padded 6 (rate % 10 ^ 6)) (plain_decimal (rate / 10 ^ 6) (omega (arith, few))) (plain_padded 6 (rate % 10 ^ 6))
+
+-- ---- one hexadecimal digit
+
+digit_of_ten : (n : ℕ) → n < 10 → (digit_value (48 + n) ≡ n) × (is_plain (48 + n) ≡ true)
+digit_of_ten n small = (grind (arith, nat_tests, small), grind (arith, nat_tests, small))
+
+letter_of_six : (n : ℕ) → 10 ≤ n → n < 16 → (digit_value (55 + n) ≡ n) × (is_plain (55 + n) ≡ true)
+letter_of_six n large small = (grind (arith, nat_tests, large, small), grind (arith, nat_tests, large, small))
+
+hexadecimal_digit : (n : ℕ) → n < 16 → (digit_value (cond (n / 10 == 0) (48 + n) (55 + n)) ≡ n) × (is_plain (cond (n / 10 == 0) (48 + n) (55 + n)) ≡ true)
+hexadecimal_digit n small = at (n / 10 == 0) refl
+  where
+    at : (b : Bool) → (n / 10 == 0) ≡ b → (digit_value (cond b (48 + n) (55 + n)) ≡ n) × (is_plain (cond b (48 + n) (55 + n)) ≡ true)
+    at true is = digit_of_ten n (omega (arith, eqb-true (n / 10) 0 is))
+    at false is = letter_of_six n (let large : 10 ≤ n = large_from (eqb-false (n / 10) 0 is) in large) small
+      where
+        large_from : (n / 10 ≡ 0 → ⊥) → 10 ≤ n
+        large_from h = grind (arith, h)
+
+pub hexadecimal_back : (n : ℕ) → n < 16 → hexadecimal (hexadecimal_text n) ≡ Some n
+hexadecimal_back n small =
+    let c : ℕ = cond (n / 10 == 0) (48 + n) (55 + n) in
+    let value : digit_value c ≡ n = (hexadecimal_digit n small).0 in
+    ap (λ k. cond (nat_lt k 16) (Some k) None) value ∙ ap (λ b. cond b (Some n) None) (lt-ltb n 16 small)
+
+pub plain_hexadecimal : (n : ℕ) → n < 16 → IsPlain (hexadecimal_text n)
+plain_hexadecimal n small = and_from (is_plain (cond (n / 10 == 0) (48 + n) (55 + n))) true (hexadecimal_digit n small).1 refl
+
+-- ---- the leap second digit
+
+pub leap_back : (n : ℕ) → (n ≡ 0) ⊎ (n ≡ 3) → leap_digit (decimal n) ≡ Some n
+unfolding digits
+leap_back n (inl e) = subst (λ n. leap_digit (decimal n) ≡ Some n) (sym e) refl
+leap_back n (inr e) = subst (λ n. leap_digit (decimal n) ≡ Some n) (sym e) refl
+
+-- ---- a local code
+
+not_x : (c : ℕ) (rest : Text) → is_ascii_digit c ≡ true → str_eq_ignore_ascii_case (c ∷ rest) (codes "x") ≡ false
+not_x c rest h = ap (λ b. b && pointwise nat_eq (map to_ascii_lowercase rest) []) (apart c h)
+  where
+    apart : (c : ℕ) → is_ascii_digit c ≡ true → (to_ascii_lowercase c == 120) ≡ false
+    apart c h = grind (arith, nat_tests, h)
+
+code_not_x : (z : ℤ) → IsWithin 899 z → str_eq_ignore_ascii_case (code_text z) (codes "x") ≡ false
+code_not_x (pos m) h =
+    let b = decimal_begins (m / 60) (cond (m % 60 == 0) [] (104 ∷ padded 2 (m % 60))) (omega (arith, signed_arith, h)) in
+    ap (λ t. str_eq_ignore_ascii_case t (codes "x")) b.is ∙ not_x b.first b.rest b.digit
+code_not_x (negsuc n) h = refl
+
+pub local_back : (code : Option ℤ) → ForSome code (IsWithin 899) → local_code_of (local_code_text code) ≡ Some code
+local_back None h = refl
+local_back (Some z) h =
+    ap (λ b. cond b (Some None) (option_map (λ (z : ℤ). Some z) (code_of (code_text z)))) (code_not_x z (h z refl))
+    ∙ ap (option_map (λ (z : ℤ). Some z)) (code_back z (h z refl))
+
+plain_offset : (m : ℕ) → m ≤ 899 → IsPlain (offset_text m)
+plain_offset m few = at (m % 60 == 0)
+  where
+    at : (b : Bool) → IsPlain (decimal (m / 60) ++ cond b [] (104 ∷ padded 2 (m % 60)))
+    at true = plain_joined (decimal (m / 60)) [] (plain_decimal (m / 60) (omega (arith, few))) refl
+    at false = plain_joined (decimal (m / 60)) (104 ∷ padded 2 (m % 60)) (plain_decimal (m / 60) (omega (arith, few))) (plain_padded 2 (m % 60))
+
+pub plain_code : (z : ℤ) → IsWithin 899 z → IsPlain (code_text z)
+plain_code (pos m) h = plain_offset m (omega (arith, signed_arith, h))
+plain_code (negsuc n) h = plain_offset (n + 1) (omega (arith, signed_arith, h))
+
+pub plain_local : (code : Option ℤ) → ForSome code (IsWithin 899) → IsPlain (local_code_text code)
+plain_local None h = refl
+plain_local (Some z) h = plain_code z (h z refl)
