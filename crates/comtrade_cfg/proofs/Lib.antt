@@ -10,3 +10,4 @@ pub mod ReadBackFacts
 pub mod ReadBackNumbers
 pub mod ReadBackMoments
 pub mod ReadBackRate
+pub mod ReadBackLines
