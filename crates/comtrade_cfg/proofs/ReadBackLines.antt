@@ -10,6 +10,7 @@ use Rattle.pq_words.specs.Magnitude.{IsWithin}
 use Rattle.pq_words.specs.FirstFault.{◌>>=◌, provided}
 use Rattle.pq_base.specs.Decimal.{decimal_of, shifted}
 use Rattle.pq_time.specs.Moment.{written_moment}
+use Rattle.pq_time.specs.Written.{code_of}
 use Rattle.pq_time.specs.Printed.{date_shown, time_shown}
 use Rattle.comtrade_cfg.specs.declared.cfg.Analogue.{Analogue}
 use Rattle.comtrade_cfg.specs.declared.cfg.StatusLine.{StatusLine}
@@ -182,3 +183,122 @@ analogue_value position n ch h small = analogue_row position n ch h small
 
 pub status_value : (position n : ℕ) (ch : StatusLine) → IsGoodStatus ch → position < 10 ^ 10 → status_line position n (decimal position ∷ status_fields ch) ≡ Ok ch
 status_value position n ch h small = status_row position n ch h small
+
+-- ---- how the samples were taken
+
+frequency_value : (n lf : ℕ) → (lf ≡ 50) ⊎ (lf ≡ 60) → frequency_line n (decimal lf ∷ []) ≡ Ok lf
+unfolding frequency_field decimal_field decimal_of digits
+frequency_value n lf (inl e) = subst (λ lf. frequency_line n (decimal lf ∷ []) ≡ Ok lf) (sym e) refl
+frequency_value n lf (inr e) = subst (λ lf. frequency_line n (decimal lf ∷ []) ≡ Ok lf) (sym e) refl
+
+pub small_frequency : (lf : ℕ) → (lf ≡ 50) ⊎ (lf ≡ 60) → lf < 2 ^ 64
+small_frequency lf (inl e) = omega (arith, e)
+small_frequency lf (inr e) = omega (arith, e)
+
+pub frequency_back : (n lf : ℕ) (rest : List Text) → (lf ≡ 50) ⊎ (lf ≡ 60)
+    → on_line frequency_line (record { number = n; lines = decimal lf ∷ rest }) ≡ Ok (lf, record { number = n + 1; lines = rest })
+frequency_back n lf rest known = row_back frequency_line n (decimal lf) [] rest lf (decimal_field_of lf (small_frequency lf known), tt) (frequency_value n lf known)
+
+rates_value : (n : ℕ) → rates_line n (decimal 1 ∷ []) ≡ Ok 1
+unfolding number_field digits
+rates_value n = refl
+
+pub rates_back : (n : ℕ) (rest : List Text) → on_line rates_line (record { number = n; lines = decimal 1 ∷ rest }) ≡ Ok (1, record { number = n + 1; lines = rest })
+rates_back n rest = row_back rates_line n (decimal 1) [] rest 1 (decimal_field_of 1 (omega arith), tt) (rates_value n)
+
+rate_value : (lf n rate : ℕ) → 16 * lf * 10 ^ 6 ≤ rate → rate ≤ 200_000_000_000 → rate_field lf n 1 (rate_text rate) ≡ Ok rate
+unfolding rate_field decimal_field
+rate_value lf n rate slow fast =
+    let r = rate_back rate fast in
+    let within : is_rate lf rate ≡ true = and_from (nat_le (16 * lf * 10 ^ 6) rate) (nat_le rate 200000000000) (le-leb (16 * lf * 10 ^ 6) rate slow) (le-leb rate 200000000000 fast) in
+    then_ok (field_or_fault n 1 (decimal_of (rate_text rate))) _ r.value _ (ap (field_or_fault n 1) r.is)
+    (ap (λ z. ok_or (rate_of lf z) (fault.Limit quantity.Rate n)) r.rounded ∙ ap (λ b. ok_or (cond b (Some rate) None) (fault.Limit quantity.Rate n)) within)
+
+samples_value : (n samples : ℕ) → samples ≤ 50_000_000 → samples_field n 2 (decimal samples) ≡ Ok samples
+unfolding samples_field
+samples_value n samples few =
+    then_ok (number_field n 2 (decimal samples)) _ samples _ (number_field_back n 2 samples (omega (arith, few))) (passes (nat_le samples 50000000) (fault.Limit quantity.Samples n) samples (le-leb samples 50000000 few))
+
+pub sampling_are_fields : (rate samples : ℕ) → rate ≤ 200_000_000_000 → samples ≤ 50_000_000 → AllByRecursion IsField (rate_text rate ∷ decimal samples ∷ [])
+sampling_are_fields rate samples fast few = (plain_field (rate_text rate) (plain_rate rate fast), (decimal_field_of samples (omega (arith, few)), tt))
+
+pub sampling_back : (lf n rate samples : ℕ) (rest : List Text) → 16 * lf * 10 ^ 6 ≤ rate → rate ≤ 200_000_000_000 → samples ≤ 50_000_000
+    → on_line (sampling_line lf) (record { number = n; lines = row_of (rate_text rate ∷ decimal samples ∷ []) ∷ rest }) ≡ Ok (record { rate = rate; endsamp = samples }, record { number = n + 1; lines = rest })
+sampling_back lf n rate samples rest slow fast few =
+    row_back (sampling_line lf) n (rate_text rate) (decimal samples ∷ []) rest _ (sampling_are_fields rate samples fast few)
+    (then_ok (rate_field lf n 1 (rate_text rate)) _ rate _ (rate_value lf n rate slow fast) (then_ok (samples_field n 2 (decimal samples)) _ samples _ (samples_value n samples few) refl))
+
+-- ---- moments
+
+stamp_value : (n : ℕ) (written : ℤ) → IsWritten written → stamp_line n (date_text (date_shown written) ∷ time_text (time_shown written) ∷ []) ≡ Ok written
+stamp_value n written h = ap (moment_fields n) (subst (λ w. written_moment (date_text (date_shown w)) (time_text (time_shown w)) ≡ Ok w) h.is (moment_back h.day h.clock h.civil h.in_day))
+
+pub stamp_are_fields : (written : ℤ) → AllByRecursion IsField (date_text (date_shown written) ∷ time_text (time_shown written) ∷ [])
+stamp_are_fields written = (plain_field (date_text (date_shown written)) (plain_date (date_shown written)), (plain_field (time_text (time_shown written)) (plain_time (time_shown written)), tt))
+
+pub stamp_back : (n : ℕ) (written : ℤ) (rest : List Text) → IsWritten written
+    → on_line stamp_line (record { number = n; lines = stamp_text written ∷ rest }) ≡ Ok (written, record { number = n + 1; lines = rest })
+stamp_back n written rest h = row_back stamp_line n (date_text (date_shown written)) (time_text (time_shown written) ∷ []) rest written (stamp_are_fields written) (stamp_value n written h)
+
+-- ---- form
+
+pub file_type_is_field : (t : FileType) → AllByRecursion IsField (file_type_text t ∷ [])
+file_type_is_field Binary = (plain_field (file_type_text Binary) refl, tt)
+
+pub file_type_back : (n : ℕ) (t : FileType) (rest : List Text) → on_line file_type_line (record { number = n; lines = file_type_text t ∷ rest }) ≡ Ok (t, record { number = n + 1; lines = rest })
+file_type_back n Binary rest = row_back file_type_line n (file_type_text Binary) [] rest Binary (file_type_is_field Binary) refl
+
+pub timemult_back : (n : ℕ) (timemult : Text) (rest : List Text) → IsDecimal timemult → on_line timemult_line (record { number = n; lines = timemult ∷ rest }) ≡ Ok (timemult, record { number = n + 1; lines = rest })
+timemult_back n timemult rest h = row_back timemult_line n timemult [] rest timemult (h.field, tt) (decimal_back n 1 timemult h)
+
+-- ---- zone
+
+codes_are_fields : (z : Zone) → IsGoodZone z → AllByRecursion IsField (code_text z.time_code ∷ local_code_text z.local_code ∷ [])
+codes_are_fields z h = (plain_field (code_text z.time_code) (plain_code z.time_code h.time_code), (plain_field (local_code_text z.local_code) (plain_local z.local_code h.local_code), tt))
+
+codes_back : (n : ℕ) (z : Zone) (rest : List Text) → IsGoodZone z
+    → on_line time_code_line (record { number = n; lines = row_of (code_text z.time_code ∷ local_code_text z.local_code ∷ []) ∷ rest }) ≡ Ok ((z.time_code, z.local_code), record { number = n + 1; lines = rest })
+codes_back n z rest h =
+    row_back time_code_line n (code_text z.time_code) (local_code_text z.local_code ∷ []) rest _ (codes_are_fields z h)
+    (then_ok (field_or_fault n 1 (code_of (code_text z.time_code))) _ z.time_code _ (ap (field_or_fault n 1) (code_back z.time_code h.time_code))
+    (then_ok (field_or_fault n 2 (local_code_of (local_code_text z.local_code))) _ z.local_code _ (ap (field_or_fault n 2) (local_back z.local_code h.local_code)) refl))
+
+small_leap : (n : ℕ) → (n ≡ 0) ⊎ (n ≡ 3) → n < 2 ^ 64
+small_leap n (inl e) = omega (arith, e)
+small_leap n (inr e) = omega (arith, e)
+
+leap_test : (n : ℕ) → (n ≡ 0) ⊎ (n ≡ 3) → ((n == 0) || (n == 3)) ≡ true
+leap_test n (inl e) = ap (λ n. (n == 0) || (n == 3)) e
+leap_test n (inr e) = ap (λ n. (n == 0) || (n == 3)) e
+
+leap_value : (n leap : ℕ) → (leap ≡ 0) ⊎ (leap ≡ 3) → leap_field n 2 (decimal leap) ≡ Ok leap
+unfolding leap_field
+leap_value n leap known =
+    then_ok (field_or_fault n 2 (leap_digit (decimal leap))) _ leap _ (ap (field_or_fault n 2) (leap_back leap known))
+    (passes ((leap == 0) || (leap == 3)) (fault.Unsupported unsupported.LeapSecond n) leap (leap_test leap known))
+
+quality_are_fields : (z : Zone) → IsGoodZone z → AllByRecursion IsField (hexadecimal_text z.quality ∷ decimal z.leap ∷ [])
+quality_are_fields z h = (plain_field (hexadecimal_text z.quality) (plain_hexadecimal z.quality h.quality), (decimal_field_of z.leap (small_leap z.leap h.leap), tt))
+
+quality_back : (n : ℕ) (z : Zone) (rest : List Text) → IsGoodZone z
+    → on_line time_quality_line (record { number = n; lines = row_of (hexadecimal_text z.quality ∷ decimal z.leap ∷ []) ∷ rest }) ≡ Ok ((z.quality, z.leap), record { number = n + 1; lines = rest })
+quality_back n z rest h =
+    row_back time_quality_line n (hexadecimal_text z.quality) (decimal z.leap ∷ []) rest _ (quality_are_fields z h)
+    (then_ok (field_or_fault n 1 (hexadecimal (hexadecimal_text z.quality))) _ z.quality _ (ap (field_or_fault n 1) (hexadecimal_back z.quality h.quality))
+    (then_ok (leap_field n 2 (decimal z.leap)) _ z.leap _ (leap_value n z.leap h.leap) refl))
+
+-- the two lines that revision 2013 has, or none
+pub zone_back : (is_2013 : Bool) (n : ℕ) (zone : Option Zone) → HasZone is_2013 zone → (m : ℕ) × (zone_lines is_2013 (record { number = n; lines = zone_rows zone }) ≡ Ok (zone, record { number = m; lines = [] }))
+zone_back is_2013 n None h = (n, ap (λ b. zone_lines b (record { number = n; lines = [] })) h)
+zone_back is_2013 n (Some z) h =
+    let rest = row_of (hexadecimal_text z.quality ∷ decimal z.leap ∷ []) ∷ [] in
+    (n + 1 + 1, ap (λ b. zone_lines b (record { number = n; lines = zone_rows (Some z) })) h.0
+    ∙ then_ok (on_line time_code_line (record { number = n; lines = zone_rows (Some z) })) _ _ _ (codes_back n z rest h.1)
+    (then_ok (on_line time_quality_line (record { number = n + 1; lines = rest })) _ _ _ (quality_back (n + 1) z [] h.1) refl))
+
+pub zone_free : (is_2013 : Bool) (zone : Option Zone) → HasZone is_2013 zone → AllByRecursion (IsFree 10) (zone_rows zone)
+zone_free is_2013 None h = tt
+zone_free is_2013 (Some z) h =
+    let c = codes_are_fields z h.1 in
+    let q = quality_are_fields z h.1 in
+    (row_free (code_text z.time_code) (local_code_text z.local_code ∷ []) c, (row_free (hexadecimal_text z.quality) (decimal z.leap ∷ []) q, tt))
