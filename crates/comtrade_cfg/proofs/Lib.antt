@@ -11,3 +11,4 @@ pub mod ReadBackNumbers
 pub mod ReadBackMoments
 pub mod ReadBackRate
 pub mod ReadBackLines
+pub mod ReadBack
