@@ -164,7 +164,7 @@ civil d is =
     }
 
 -- the same date as jiff has it
-pub date_in : (d : CivilDate) → IsCivil d → Date
+abbrev pub date_in : (d : CivilDate) → IsCivil d → Date
 date_in d c = record {
   year = pos d.year;
   month = d.month;
@@ -176,10 +176,10 @@ date_in d c = record {
 
 -- its day number
 pub day_between : (d : CivilDate) → IsCivil d → IsBetween (neg_ℤ (pos 25_567)) (pos 84_005) (day_number d)
-unfolding date_in
 day_between d c = written_day (date_in d c) (omega (arith, signed_arith, c.from)) (omega (arith, signed_arith, c.until))
 
-nanoseconds_bound : (t : TimeOfDay) → IsClockTime t → nanoseconds_in_day t < 86_400_000_000_000
+-- a time of day is less than a day
+pub nanoseconds_bound : (t : TimeOfDay) → IsClockTime t → nanoseconds_in_day t < 86_400_000_000_000
 nanoseconds_bound t c = omega (arith, c.hour, c.minute, c.second, c.nanosecond)
 
 -- a moment from 1900 to 2199
@@ -220,7 +220,8 @@ hexadecimal_small (c ∷ []) n e = at (nat_lt (digit_value c) 16) refl e
     at false is e = absurd cc
 hexadecimal_small (c ∷ d ∷ more) n e = absurd cc
 
-quality_small : (line : ℕ) (fields : List Text) (x : ℕ × ℕ) → time_quality_line line fields ≡ Ok x → x.0 < 16
+-- the time quality of a line is a hexadecimal digit
+pub quality_small : (line : ℕ) (fields : List Text) (x : ℕ × ℕ) → time_quality_line line fields ≡ Ok x → x.0 < 16
 quality_small line [] x e = absurd cc
 quality_small line (a ∷ []) x e = absurd cc
 quality_small line (tmq_code ∷ leapsec ∷ []) x e =
@@ -266,7 +267,8 @@ stamp_within start y e =
     let m = s.2 in
     subst (IsWithin (7_300 * 10 ^ 15)) m.is (moment_within m.day m.clock (civil m.day (date_civil s.0 m.day m.day_is)) (time_clock s.1 m.clock m.clock_is))
 
-bounded : (start : Ahead) (c : Configuration) → LinesRead start c → IsBounded c
+-- what was read from lines is bounded
+pub bounded : (start : Ahead) (c : Configuration) → LinesRead start c → IsBounded c
 bounded start c r =
     let counts = line_read counts_line r.station.1 r.counts r.counts_is in
     let few = counts_small r.station.1.number (fields_of counts.line) r.counts.0 counts.value in

@@ -9,3 +9,11 @@ mod StandardFacts
 mod OtherFacts
 pub mod ReadingSteps
 pub mod ValueLemmas
+pub mod ReadBackText
+pub mod CanonicalFacts
+pub mod ReadBackFacts
+pub mod ReadBackNumbers
+pub mod ReadBackMoments
+pub mod ReadBackRate
+pub mod ReadBackLines
+pub mod ReadBack

@@ -3,7 +3,7 @@ ghost use Rattle.std.specs.Prelude.{◌≡◌, ◌++◌, ◌*◌, ◌^◌, ◌<�
 ghost use Rattle.std.specs.Option.{ForSome};
 ghost use Rattle.pq_words.specs.Magnitude.{IsWithin};
 ghost use Rattle.comtrade_cfg.specs.Configuration.{view};
-ghost use Rattle.comtrade_cfg.specs.CfgText.{IsConfiguration, offset_of};
+ghost use Rattle.comtrade_cfg.specs.CfgText.{IsCfgOf, IsConfiguration, offset_of};
 ghost use Rattle.comtrade_cfg.specs.Canonical.{canonical_text, file_type_text};
 ghost use Rattle.comtrade_cfg.specs.CanonicalParts.{station_text, counts_text, sampling_text, moments_text, form_text, local_code_text, zone_text};
 
@@ -150,11 +150,12 @@ fn canonical(alloc: Global, cfg: &Cfg) -> Result<Vec<u8>, AllocError>
 }
 
 /// The canonical text of a cfg: its lines with trimmed fields, each ended by CR LF, numbers without
-/// leading zeros, moments as written at the offset of its time code. [`OutOfMemory`] where memory
-/// is short.
+/// leading zeros, moments as written at the offset of its time code. Within the limit of a cfg's bytes
+/// it says this cfg again. [`OutOfMemory`] where memory is short.
 pub fn print_cfg(alloc: Global, cfg: &Cfg) -> Result<Text, OutOfMemory>
     requires { IsConfiguration (view cfg.now) }
-    ensures { IfOk result (λ text. text ≡ canonical_text (view cfg.now)) }
+    ensures value { IfOk result (λ text. text ≡ canonical_text (view cfg.now)) }
+    ensures reads_back { IfOk result (λ text. length text ≤ 1_048_576 → IsCfgOf text (view cfg.now)) }
 {
     match canonical(alloc, cfg) {
         Ok(bytes) => Ok(Text::new(bytes)),
