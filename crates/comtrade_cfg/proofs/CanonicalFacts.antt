@@ -58,16 +58,16 @@ trim_trimmed xs =
     let size : length (take n front) ≡ n = length-take-le n front (omega arith) in
     record {
       front = λ some.
-      let in_front : 0 < n = omega (arith, size, some) in
-      let in_text : prefix_len is_blank xs < length xs = omega (arith, in_front, length-drop (prefix_len is_blank xs) xs) in
-      let at : prefix_len is_blank xs + 0 ≡ prefix_len is_blank xs = omega arith in
-      ap is_blank (get_or-take n front 0 0 in_front ∙ get_or-drop (prefix_len is_blank xs) xs 0 0 ∙ ap (λ k. get_or xs k 0) at) ∙ prefix_len_stops is_blank xs 0 in_text;
+          let in_front : 0 < n = omega (arith, size, some) in
+          let in_text : prefix_len is_blank xs < length xs = omega (arith, in_front, length-drop (prefix_len is_blank xs) xs) in
+          let at : prefix_len is_blank xs + 0 ≡ prefix_len is_blank xs = omega arith in
+          ap is_blank (get_or-take n front 0 0 in_front ∙ get_or-drop (prefix_len is_blank xs) xs 0 0 ∙ ap (λ k. get_or xs k 0) at) ∙ prefix_len_stops is_blank xs 0 in_text;
       back = λ some.
-      let in_front : 0 < n = omega (arith, size, some) in
-      let less : suffix_len is_blank front < length front = omega (arith, in_front) in
-      let at : length (take n front) - 1 ≡ length front - 1 - suffix_len is_blank front = omega (arith, size) in
-      let inside : length front - 1 - suffix_len is_blank front < n = omega (arith, in_front) in
-      ap is_blank (ap (λ k. get_or (take n front) k 0) at ∙ get_or-take n front (length front - 1 - suffix_len is_blank front) 0 inside) ∙ last_stops front less;
+          let in_front : 0 < n = omega (arith, size, some) in
+          let less : suffix_len is_blank front < length front = omega (arith, in_front) in
+          let at : length (take n front) - 1 ≡ length front - 1 - suffix_len is_blank front = omega (arith, size) in
+          let inside : length front - 1 - suffix_len is_blank front < n = omega (arith, in_front) in
+          ap is_blank (ap (λ k. get_or (take n front) k 0) at ∙ get_or-take n front (length front - 1 - suffix_len is_blank front) 0 inside) ∙ last_stops front less;
     }
 
 trimmed_free : (c : ℕ) (xs : Text) → IsFree c xs → IsFree c (trimmed xs)

@@ -115,14 +115,34 @@ whole c g =
     }) refl
   where
     same : (c : Configuration) → record {
-      station = c.station; device = c.device; revision = c.revision; analogue = c.analogue; status = c.status; lf = c.lf; rate = c.rate; endsamp = c.endsamp;
-      first = utc_of (written_of c.first (offset_of c.zone)) (offset_of c.zone); trigger = utc_of (written_of c.trigger (offset_of c.zone)) (offset_of c.zone);
-      file_type = c.file_type; timemult = c.timemult; zone = c.zone;
+      station = c.station;
+      device = c.device;
+      revision = c.revision;
+      analogue = c.analogue;
+      status = c.status;
+      lf = c.lf;
+      rate = c.rate;
+      endsamp = c.endsamp;
+      first = utc_of (written_of c.first (offset_of c.zone)) (offset_of c.zone);
+      trigger = utc_of (written_of c.trigger (offset_of c.zone)) (offset_of c.zone);
+      file_type = c.file_type;
+      timemult = c.timemult;
+      zone = c.zone;
     } ≡ c
     same c = λ i. record {
-      station = c.station; device = c.device; revision = c.revision; analogue = c.analogue; status = c.status; lf = c.lf; rate = c.rate; endsamp = c.endsamp;
-      first = utc_again c.first (offset_of c.zone) i; trigger = utc_again c.trigger (offset_of c.zone) i;
-      file_type = c.file_type; timemult = c.timemult; zone = c.zone;
+      station = c.station;
+      device = c.device;
+      revision = c.revision;
+      analogue = c.analogue;
+      status = c.status;
+      lf = c.lf;
+      rate = c.rate;
+      endsamp = c.endsamp;
+      first = utc_again c.first (offset_of c.zone) i;
+      trigger = utc_again c.trigger (offset_of c.zone) i;
+      file_type = c.file_type;
+      timemult = c.timemult;
+      zone = c.zone;
     }
 
 -- no line feed stands in a line
@@ -131,18 +151,30 @@ lines_free c g =
     let b = g.bounds in
     let first : ℤ = written_of c.first (offset_of c.zone) in
     let trigger : ℤ = written_of c.trigger (offset_of c.zone) in
-    let tail : AllByRecursion (IsFree 10) (tail_lines c) =
-    (row_free (decimal c.lf) [] (decimal_field_of c.lf (small_frequency c.lf b.lf), tt),
-    (row_free (decimal 1) [] (decimal_field_of 1 (omega arith), tt),
-    (row_free (rate_text c.rate) (decimal c.endsamp ∷ []) (sampling_are_fields c.rate c.endsamp b.fastest b.endsamp),
-    (row_free (date_text (date_shown first)) (time_text (time_shown first) ∷ []) (stamp_are_fields first),
-    (row_free (date_text (date_shown trigger)) (time_text (time_shown trigger) ∷ []) (stamp_are_fields trigger),
-    (row_free (file_type_text c.file_type) [] (file_type_is_field c.file_type),
-    (row_free c.timemult [] (g.timemult.field, tt), zone_free (c.revision == 2013) c.zone g.zone))))))) in
+    let tail : AllByRecursion (IsFree 10) (tail_lines c) = (
+      row_free (decimal c.lf) [] (decimal_field_of c.lf (small_frequency c.lf b.lf), tt),
+      (
+        row_free (decimal 1) [] (decimal_field_of 1 (omega arith), tt),
+        (
+          row_free (rate_text c.rate) (decimal c.endsamp ∷ []) (sampling_are_fields c.rate c.endsamp b.fastest b.endsamp),
+          (
+            row_free (date_text (date_shown first)) (time_text (time_shown first) ∷ []) (stamp_are_fields first),
+            (
+              row_free (date_text (date_shown trigger)) (time_text (time_shown trigger) ∷ []) (stamp_are_fields trigger),
+              (
+                row_free (file_type_text c.file_type) [] (file_type_is_field c.file_type),
+                (row_free c.timemult [] (g.timemult.field, tt), zone_free (c.revision == 2013) c.zone g.zone),
+              ),
+            ),
+          ),
+        ),
+      ),
+    ) in
     let status = channels_free status_line status_fields IsGoodStatus status_are_fields status_value 1 c.status (tail_lines c) g.status (omega (arith, b.status)) tail in
-    let analogue = channels_free analogue_line analogue_fields IsGoodAnalogue analogue_are_fields analogue_value 1 c.analogue (numbered_rows 1 (map status_fields c.status) ++ tail_lines c) g.analogue (omega (arith, b.analogue)) status in
-    (row_free c.station (c.device ∷ decimal c.revision ∷ []) (station_is_fields c.station c.device c.revision g.station g.device g.revision),
-    (row_free (decimal (length c.analogue + length c.status)) ((decimal (length c.analogue) ++ 65 ∷ []) ∷ (decimal (length c.status) ++ 68 ∷ []) ∷ []) (counts_are_fields (length c.analogue) (length c.status) b.analogue b.status), analogue))
+    let analogue = channels_free analogue_line analogue_fields IsGoodAnalogue analogue_are_fields analogue_value 1 c.analogue (numbered_rows 1 (map status_fields c.status) ++ tail_lines c) g.analogue (omega (arith, b.analogue)) status in (
+      row_free c.station (c.device ∷ decimal c.revision ∷ []) (station_is_fields c.station c.device c.revision g.station g.device g.revision),
+      (row_free (decimal (length c.analogue + length c.status)) ((decimal (length c.analogue) ++ 65 ∷ []) ∷ (decimal (length c.status) ++ 68 ∷ []) ∷ []) (counts_are_fields (length c.analogue) (length c.status) b.analogue b.status), analogue),
+    )
 
 -- the law of printing
 pub reads_back : ReadsBack

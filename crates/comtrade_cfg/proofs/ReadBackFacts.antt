@@ -198,9 +198,10 @@ channels_good {A} rule P each position (suc n) start y e h =
     from_bind (on_line (rule position) start) _ y e (λ first first_is e. from_bind (channel_lines rule (position + 1) n first.1) _ y e (λ others others_is e.
     let same = same_ok e in
     let r = fields_read (rule position) start first first_is h in
-    let more = channels_good rule P each (position + 1) n first.1 others others_is r.after in
-    (subst (AllByRecursion P) (ap (λ (z : List A × Ahead). z.0) same) (each position start.number r.fields first.0 r.are r.value, more.0),
-    subst (AllByRecursion (IsFree 10)) (ap (λ (z : List A × Ahead). z.1.lines) same) more.1)))
+    let more = channels_good rule P each (position + 1) n first.1 others others_is r.after in (
+      subst (AllByRecursion P) (ap (λ (z : List A × Ahead). z.0) same) (each position start.number r.fields first.0 r.are r.value, more.0),
+      subst (AllByRecursion (IsFree 10)) (ap (λ (z : List A × Ahead). z.1.lines) same) more.1,
+    )))
 
 -- ---- moments
 
@@ -248,9 +249,10 @@ codes_good line [] x e = absurd cc
 codes_good line (a ∷ []) x e = absurd cc
 codes_good line (time_code ∷ local_code ∷ []) x e =
     from_bind (field_or_fault line 1 (code_of time_code)) _ x e (λ t t_is e. from_bind (field_or_fault line 2 (local_code_of local_code)) _ x e (λ l l_is e.
-    let same = same_ok e in
-    (subst (IsWithin 899) (ap (λ (x : ℤ × Option ℤ). x.0) same) (code_small time_code t (some_ok (code_of time_code) _ t t_is)),
-    subst (λ (o : Option ℤ). ForSome o (IsWithin 899)) (ap (λ (x : ℤ × Option ℤ). x.1) same) (local_small local_code l (some_ok (local_code_of local_code) _ l l_is)))))
+    let same = same_ok e in (
+      subst (IsWithin 899) (ap (λ (x : ℤ × Option ℤ). x.0) same) (code_small time_code t (some_ok (code_of time_code) _ t t_is)),
+      subst (λ (o : Option ℤ). ForSome o (IsWithin 899)) (ap (λ (x : ℤ × Option ℤ). x.1) same) (local_small local_code l (some_ok (local_code_of local_code) _ l l_is)),
+    )))
 codes_good line (a ∷ b ∷ c ∷ more) x e = absurd cc
 
 leap_known : (line field : ℕ) (text : Text) (n : ℕ) → leap_field line field text ≡ Ok n → (n ≡ 0) ⊎ (n ≡ 3)
@@ -283,11 +285,15 @@ zone_good true start y e =
     let r = line_read time_code_line start codes codes_is in
     let s = line_read time_quality_line codes.1 quality quality_is in
     let c = codes_good start.number (fields_of r.line) codes.0 r.value in
-    subst (HasZone true) (ap (λ (y : Option Zone × Ahead). y.0) (same_ok e)) (refl, record {
-      time_code = c.0; local_code = c.1;
-      quality = quality_small codes.1.number (fields_of s.line) quality.0 s.value;
-      leap = leap_good codes.1.number (fields_of s.line) quality.0 s.value;
-    })))
+    subst (HasZone true) (ap (λ (y : Option Zone × Ahead). y.0) (same_ok e)) (
+      refl,
+      record {
+        time_code = c.0;
+        local_code = c.1;
+        quality = quality_small codes.1.number (fields_of s.line) quality.0 s.value;
+        leap = leap_good codes.1.number (fields_of s.line) quality.0 s.value;
+      },
+    )))
 zone_good false start y e = subst (HasZone false) (ap (λ (y : Option Zone × Ahead). y.0) (same_ok e)) refl
 
 -- ---- the whole
@@ -322,8 +328,11 @@ good start c r h =
     let offset : ℤ = offset_of r.zone.0 in
     let bounds : IsBounded c = bounded start c r in
     subst IsGood r.is (record {
-      station = s.station; device = s.device; revision = s.revision;
-      analogue = analogue.0; status = status.0;
+      station = s.station;
+      device = s.device;
+      revision = s.revision;
+      analogue = analogue.0;
+      status = status.0;
       bounds = subst IsBounded (sym r.is) bounds;
       first = subst IsWritten (sym (written_again r.first.0 offset)) (stamp_good r.sampling.1.number first.fields r.first.0 first.value);
       trigger = subst IsWritten (sym (written_again r.trigger.0 offset)) (stamp_good r.first.1.number trigger.fields r.trigger.0 trigger.value);

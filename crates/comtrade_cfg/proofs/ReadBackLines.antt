@@ -108,10 +108,13 @@ count_back capital what line field n few =
     (passes (nat_le n 999) (fault.Limit what line) n (le-leb n 999 few))
 
 pub counts_are_fields : (a d : ℕ) → a ≤ 999 → d ≤ 999 → AllByRecursion IsField (decimal (a + d) ∷ (decimal a ++ 65 ∷ []) ∷ (decimal d ++ 68 ∷ []) ∷ [])
-counts_are_fields a d few others =
-    (decimal_field_of (a + d) (omega (arith, few, others)),
-    (plain_field (decimal a ++ 65 ∷ []) (plain_joined (decimal a) (65 ∷ []) (plain_decimal a (omega (arith, few))) refl),
-    (plain_field (decimal d ++ 68 ∷ []) (plain_joined (decimal d) (68 ∷ []) (plain_decimal d (omega (arith, others))) refl), tt)))
+counts_are_fields a d few others = (
+  decimal_field_of (a + d) (omega (arith, few, others)),
+  (
+    plain_field (decimal a ++ 65 ∷ []) (plain_joined (decimal a) (65 ∷ []) (plain_decimal a (omega (arith, few))) refl),
+    (plain_field (decimal d ++ 68 ∷ []) (plain_joined (decimal d) (68 ∷ []) (plain_decimal d (omega (arith, others))) refl), tt),
+  ),
+)
 
 pub counts_back : (n a d : ℕ) (rest : List Text) → a ≤ 999 → d ≤ 999
     → on_line counts_line (record { number = n; lines = row_of (decimal (a + d) ∷ (decimal a ++ 65 ∷ []) ∷ (decimal d ++ 68 ∷ []) ∷ []) ∷ rest }) ≡ Ok (record { analogue = a; status = d }, record { number = n + 1; lines = rest })
@@ -168,9 +171,11 @@ module _ {A : Type 0} (rule : ℕ → LineRule A) (shown : A → List Text) (P :
   channels_back position n (x ∷ xs) rest h few =
       let more = channels_back (position + 1) (n + 1) xs rest h.1 (omega (arith, few)) in
       let all : AllByRecursion IsField (decimal position ∷ shown x) = (decimal_field_of position (omega (arith, few)), fields x h.0) in
-      let first = row_back (rule position) n (decimal position) (shown x) (numbered_rows (position + 1) (map shown xs) ++ rest) x all (value position n x h.0 (omega (arith, few))) in
-      (more.0, then_ok (on_line (rule position) (record { number = n; lines = row_of (decimal position ∷ shown x) ∷ (numbered_rows (position + 1) (map shown xs) ++ rest) })) _ _ _ first
-      (then_ok (channel_lines rule (position + 1) (length xs) (record { number = n + 1; lines = numbered_rows (position + 1) (map shown xs) ++ rest })) _ _ _ more.1 refl))
+      let first = row_back (rule position) n (decimal position) (shown x) (numbered_rows (position + 1) (map shown xs) ++ rest) x all (value position n x h.0 (omega (arith, few))) in (
+        more.0,
+        then_ok (on_line (rule position) (record { number = n; lines = row_of (decimal position ∷ shown x) ∷ (numbered_rows (position + 1) (map shown xs) ++ rest) })) _ _ _ first
+            (then_ok (channel_lines rule (position + 1) (length xs) (record { number = n + 1; lines = numbered_rows (position + 1) (map shown xs) ++ rest })) _ _ _ more.1 refl),
+      )
 
   -- no line feed stands in them
   pub channels_free : (position : ℕ) (xs : List A) (rest : List Text) → AllByRecursion P xs → position + length xs ≤ 10 ^ 9 → AllByRecursion (IsFree 10) rest → AllByRecursion (IsFree 10) (numbered_rows position (map shown xs) ++ rest)
@@ -291,10 +296,12 @@ quality_back n z rest h =
 pub zone_back : (is_2013 : Bool) (n : ℕ) (zone : Option Zone) → HasZone is_2013 zone → (m : ℕ) × (zone_lines is_2013 (record { number = n; lines = zone_rows zone }) ≡ Ok (zone, record { number = m; lines = [] }))
 zone_back is_2013 n None h = (n, ap (λ b. zone_lines b (record { number = n; lines = [] })) h)
 zone_back is_2013 n (Some z) h =
-    let rest = row_of (hexadecimal_text z.quality ∷ decimal z.leap ∷ []) ∷ [] in
-    (n + 1 + 1, ap (λ b. zone_lines b (record { number = n; lines = zone_rows (Some z) })) h.0
-    ∙ then_ok (on_line time_code_line (record { number = n; lines = zone_rows (Some z) })) _ _ _ (codes_back n z rest h.1)
-    (then_ok (on_line time_quality_line (record { number = n + 1; lines = rest })) _ _ _ (quality_back (n + 1) z [] h.1) refl))
+    let rest = row_of (hexadecimal_text z.quality ∷ decimal z.leap ∷ []) ∷ [] in (
+      n + 1 + 1,
+      ap (λ b. zone_lines b (record { number = n; lines = zone_rows (Some z) })) h.0
+          ∙ then_ok (on_line time_code_line (record { number = n; lines = zone_rows (Some z) })) _ _ _ (codes_back n z rest h.1)
+          (then_ok (on_line time_quality_line (record { number = n + 1; lines = rest })) _ _ _ (quality_back (n + 1) z [] h.1) refl),
+    )
 
 pub zone_free : (is_2013 : Bool) (zone : Option Zone) → HasZone is_2013 zone → AllByRecursion (IsFree 10) (zone_rows zone)
 zone_free is_2013 None h = tt

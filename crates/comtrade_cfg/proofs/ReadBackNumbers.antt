@@ -124,7 +124,8 @@ plain_at (c ∷ text) (suc i) inside h = plain_at text i (omega (arith, inside))
 -- plain bytes are a field
 pub plain_field : (text : Text) → IsPlain text → IsField text
 plain_field text h = record {
-  comma = (plain_free text h).0; line_feed = (plain_free text h).1;
+  comma = (plain_free text h).0;
+  line_feed = (plain_free text h).1;
   trim = record { front = λ some. plain_at text 0 some h; back = λ some. plain_at text (length text - 1) (omega (arith, some)) h };
 }
 

@@ -73,8 +73,8 @@ whole_rate w rate small same =
     record {
       value = record { negative = false; digits = w; exponent = pos 0 -ℤ pos 0 };
       is = mantissa (decimal w) (subst BeginsWithDigit (append-nil (decimal w)) (decimal_begins w [] fits)) (no_marks (decimal w) digits)
-      ∙ ap (λ parts. mantissa_of false parts (pos 0)) (split_free (λ b. b == 46) (decimal w) (digits_free 46 (decimal w) refl digits))
-      ∙ ap (option_map (λ n. record { negative = false; digits = n; exponent = pos 0 -ℤ pos 0 })) joined;
+          ∙ ap (λ parts. mantissa_of false parts (pos 0)) (split_free (λ b. b == 46) (decimal w) (digits_free 46 (decimal w) refl digits))
+          ∙ ap (option_map (λ n. record { negative = false; digits = n; exponent = pos 0 -ℤ pos 0 })) joined;
       rounded = ap pos same;
     }
 
@@ -93,10 +93,10 @@ fraction_rate w rest rate small few same =
     record {
       value = record { negative = false; digits = rate; exponent = pos 0 -ℤ pos 6 };
       is = mantissa (decimal w ++ 46 ∷ padded 6 rest) (decimal_begins w (46 ∷ padded 6 rest) fits)
-      (list_any-append is_exponent_mark (decimal w) (46 ∷ padded 6 rest) ∙ ap (λ b. b || list_any is_exponent_mark (padded 6 rest)) (no_marks (decimal w) whole) ∙ no_marks (padded 6 rest) (padded_digits 6 rest))
-      ∙ ap (λ parts. mantissa_of false parts (pos 0)) (split_at (λ b. b == 46) (decimal w) 46 (padded 6 rest) (digits_free 46 (decimal w) refl whole) refl
-      ∙ ap (λ z. decimal w ∷ z) (split_free (λ b. b == 46) (padded 6 rest) (digits_free 46 (padded 6 rest) refl (padded_digits 6 rest))))
-      ∙ ap (option_map (λ n. record { negative = false; digits = n; exponent = pos 0 -ℤ pos 6 })) joined;
+          (list_any-append is_exponent_mark (decimal w) (46 ∷ padded 6 rest) ∙ ap (λ b. b || list_any is_exponent_mark (padded 6 rest)) (no_marks (decimal w) whole) ∙ no_marks (padded 6 rest) (padded_digits 6 rest))
+          ∙ ap (λ parts. mantissa_of false parts (pos 0)) (split_at (λ b. b == 46) (decimal w) 46 (padded 6 rest) (digits_free 46 (decimal w) refl whole) refl
+          ∙ ap (λ z. decimal w ∷ z) (split_free (λ b. b == 46) (padded 6 rest) (digits_free 46 (padded 6 rest) refl (padded_digits 6 rest))))
+          ∙ ap (option_map (λ n. record { negative = false; digits = n; exponent = pos 0 -ℤ pos 6 })) joined;
       rounded = ap pos one;
     }
 
