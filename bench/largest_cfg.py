@@ -1,5 +1,5 @@
 #!/usr/bin/env python3
-"""Writes a cfg of 999 analogue and 999 status channels and just under 1,048,576 bytes as largest.cfg into a folder."""
+"""Writes a cfg of 999 analogue and 999 status channels and just under 1,048,576 bytes as many.cfg into a folder."""
 import sys
 
 folder = sys.argv[1]
@@ -10,5 +10,5 @@ lines += ["50.00", "1", "4800.000,9600", "01/03/2024,06:30:01.000000", "01/03/20
 lines += ["binary", "1.0", "-5h30,x", "b,3"]
 text = "".join(line + "\r\n" for line in lines)
 assert 1_000_000 < len(text) <= 1_048_576, len(text)
-with open(f"{folder}/largest.cfg", "w", newline="") as cfg:
+with open(f"{folder}/many.cfg", "w", newline="") as cfg:
     cfg.write(text)

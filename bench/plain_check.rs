@@ -1,5 +1,5 @@
 // The steps of `check` on a good cfg of 2013 in plain Rust, without contracts: the measure of the proved program's speed.
-// Built by bench/check_speed.sh; no part of the product. Faults end it with exit code 2.
+// Built by bench/speed.sh; no part of the product. Faults end it with exit code 2.
 use std::io::Write;
 
 type Reading<T> = Option<T>;

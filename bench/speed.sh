@@ -1,29 +1,40 @@
 #!/bin/sh
-# Times `intervals` on the largest strict recording against plain Rust that does the same steps, and compares their output.
-# Outside the gate: wants rustc and python3.
+# Times `intervals` on the largest strict recording, and `check` on a cfg of a megabyte and 1,998 channels, against
+# plain Rust that does the same steps, and compares their output. Outside the gate: wants rustc and python3.
 set -e
 home=$(cd "$(dirname "$0")/.." && pwd)
 work=$(mktemp -d)
 trap 'rm -rf "$work"' EXIT
 python3 "$home/bench/largest_recording.py" "$work"
-rustc -O -C opt-level=3 -C target-cpu=x86-64-v2 -o "$work/plain" "$home/bench/plain.rs"
+python3 "$home/bench/largest_cfg.py" "$work"
+for program in plain plain_check; do
+    rustc -O -C opt-level=3 -C target-cpu=x86-64-v2 -o "$work/$program" "$home/bench/$program.rs"
+done
 cd "$work"
-"$home/pqa" intervals --udin 230000 largest.cfg largest.dat >proved.csv
-./plain intervals --udin 230000 largest.cfg largest.dat >plain.csv
-cmp proved.csv plain.csv
-python3 - "$home/pqa" "$work/plain" <<'PYTHON'
-import os, subprocess, sys, time
+
+compare() {
+    plain=$1
+    shift
+    "$home/pqa" "$@" >proved.out
+    "./$plain" "$@" >plain.out
+    cmp proved.out plain.out
+    python3 - "$home/crates/pqa/out/pqa" "./$plain" "$@" <<'PYTHON'
+import subprocess, sys, time
+
+program, plain, *words = sys.argv[1:]
 
 def best(program):
     times = []
     for _ in range(30):
         start = time.perf_counter()
-        subprocess.run([program, "intervals", "--udin", "230000", "largest.cfg", "largest.dat"], stdout=subprocess.DEVNULL, check=True)
+        subprocess.run([program, *words], stdout=subprocess.DEVNULL, check=True)
         times.append(time.perf_counter() - start)
     return min(times)
 
-launcher, plain = sys.argv[1:]
-program = os.path.join(os.path.dirname(launcher), "crates", "pqa", "out", "pqa")
 proved, unproved = best(program), best(plain)
-print(f"proved {proved * 1000:.1f} ms, plain Rust {unproved * 1000:.1f} ms, ratio {proved / unproved:.2f}")
+print(f"{words[0]}: proved {proved * 1000:.1f} ms, plain Rust {unproved * 1000:.1f} ms, ratio {proved / unproved:.2f}")
 PYTHON
+}
+
+compare plain intervals --udin 230000 largest.cfg largest.dat
+compare plain_check check many.cfg
