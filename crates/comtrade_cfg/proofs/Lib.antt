@@ -9,3 +9,6 @@ mod StandardFacts
 mod OtherFacts
 pub mod ReadingSteps
 pub mod ValueLemmas
+pub mod GrammarPlaces
+pub mod GrammarFields
+pub mod GrammarLines
