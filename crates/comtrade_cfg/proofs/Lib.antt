@@ -12,3 +12,5 @@ pub mod ValueLemmas
 pub mod GrammarPlaces
 pub mod GrammarFields
 pub mod GrammarLines
+pub mod GrammarZone
+pub mod GrammarFound
