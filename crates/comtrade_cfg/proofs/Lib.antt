@@ -14,3 +14,5 @@ pub mod GrammarFields
 pub mod GrammarLines
 pub mod GrammarZone
 pub mod GrammarFound
+pub mod GrammarOnly
+pub mod GrammarLaws
