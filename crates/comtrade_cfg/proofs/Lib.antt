@@ -17,3 +17,10 @@ pub mod ReadBackMoments
 pub mod ReadBackRate
 pub mod ReadBackLines
 pub mod ReadBack
+pub mod GrammarPlaces
+pub mod GrammarFields
+pub mod GrammarLines
+pub mod GrammarZone
+pub mod GrammarFound
+pub mod GrammarOnly
+pub mod GrammarLaws

@@ -77,7 +77,8 @@ nanoseconds_small text n e = at (digits_between 1 9 text) refl e
         let same : k * 10 ^ (9 - length text) ≡ n = cc in
         omega (arith, same, scaled_small k (length text) (10 ^ (9 - length text)) d.1 (digits_small 1 9 text k is) refl)
 
-mapped_some : {A B : Type 0} (f : A → B) (o : Option A) (y : B) → option_map f o ≡ Some y → (x : A) × (o ≡ Some x) × (f x ≡ y)
+-- a value that was mapped from one
+pub mapped_some : {A B : Type 0} (f : A → B) (o : Option A) (y : B) → option_map f o ≡ Some y → (x : A) × (o ≡ Some x) × (f x ≡ y)
 mapped_some f None y e = absurd cc
 mapped_some f (Some x) y e = (x, refl, cc)
 
