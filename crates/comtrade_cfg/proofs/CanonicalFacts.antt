@@ -1,10 +1,10 @@
 -- What the fields of a cfg are: free of commas and line feeds, with no blank at their ends.
-use Rattle.std.proofs.Common.{◌≡◌, ℕ, zero, suc, ◌+◌, ◌-◌, ◌<◌, ◌≤◌, ◌==◌, ◌||◌, Bool, true, false, cond, List, [], ◌∷◌, ◌++◌, map, take, drop, get_or, length, refl, sym, ap, ◌∙◌, arith, add-one}
-use Rattle.std.specs.List.{list_any, slice_split, onto_first, prefix_len, suffix_len, AllByRecursion}
+use Rattle.std.proofs.Common.{◌≡◌, ℕ, zero, suc, ◌+◌, ◌-◌, ◌<◌, ◌==◌, ◌||◌, Bool, true, false, cond, List, [], ◌∷◌, map, take, drop, get_or, length, refl, sym, ap, ◌∙◌, arith}
+use Rattle.std.specs.List.{list_any, onto_first, prefix_len, suffix_len, AllByRecursion}
 use Rattle.std.specs.Str.Lines.{lines, lines_of_parts, strip_carriage_return}
 use Rattle.std.specs.Prelude.{reverse}
-use Rattle.std.proofs.lemmas.List.{length-take, length-take-le, length-drop, get_or-take, get_or-drop, get_or-reverse, length-reverse}
-use Rattle.std.proofs.lemmas.List.Sums.{prefix_len_stops, prefix_len-le-length, suffix_len-le-length}
+use Rattle.std.proofs.lemmas.List.{length-take-le, length-drop, get_or-take, get_or-drop, get_or-reverse, length-reverse}
+use Rattle.std.proofs.lemmas.List.Sums.{prefix_len_stops}
 use Rattle.pq_words.specs.Text.{Text, is_blank, trimmed, parted_at}
 use Rattle.comtrade_cfg.specs.Fields.{fields_of}
 use Rattle.comtrade_cfg.proofs.ReadBackText.{IsFree, or_false, IsTrim, IsField}

@@ -1,15 +1,13 @@
 -- How large the parts of a configuration are that some text says.
-use Rattle.std.proofs.Common.{◌≡◌, ℕ, zero, suc, ◌+◌, ◌*◌, ◌^◌, ◌<◌, ◌≤◌, ◌⊎◌, inl, inr, Bool, true, false, cond, List, [], ◌∷◌, length, ℤ, pos, negsuc, neg_ℤ, ◌+ℤ◌, ◌*ℤ◌, ◌≤ℤ◌, Option, Some, None, Result, Ok, Err, refl, sym, subst, ap, ◌∙◌, arith, nat_le, nat_lt, ◌==◌, ◌&&◌}
+use Rattle.std.proofs.Common.{◌≡◌, ℕ, zero, suc, ◌+◌, ◌*◌, ◌^◌, ◌<◌, ◌≤◌, ◌⊎◌, inl, inr, Bool, true, false, cond, List, [], ◌∷◌, length, ℤ, pos, negsuc, neg_ℤ, Option, Some, None, Result, Ok, Err, refl, sym, subst, ap, ◌∙◌, arith, nat_le, nat_lt, ◌==◌, ◌&&◌}
 use Rattle.std.specs.Option.{ForSome}
 use Rattle.std.specs.Char.{digit_value}
-use Rattle.std.proofs.lemmas.Bool.{and_parts, ltb-true, leb-true, eqb-true}
-use Rattle.jiff_core.specs.Calendar.{days_in_month, days_from_civil, IsBetween}
+use Rattle.std.proofs.lemmas.Bool.{and_parts, ltb-true, leb-true}
+use Rattle.jiff_core.specs.Calendar.{days_in_month, IsBetween}
 use Rattle.jiff_core.specs.declared.civil.date.Date.{Date}
-use Rattle.jiff_core.specs.Date.{epoch_day}
 use Rattle.jiff_core.proofs.SignedLemmas.{signed_arith}
-use Rattle.pq_words.specs.Text.{Text, number}
+use Rattle.pq_words.specs.Text.{Text}
 use Rattle.pq_words.specs.Magnitude.{IsWithin}
-use Rattle.pq_words.specs.FirstFault.{provided}
 use Rattle.pq_words.proofs.ReadingLemmas.{bind_ok, provided_ok, some_ok}
 use Rattle.pq_base.specs.Decimal.{shifted}
 use Rattle.pq_time.specs.declared.bad_moment.BadMoment.TheVariants as bad
@@ -20,12 +18,11 @@ use Rattle.pq_time.proofs.DayLemmas.{written_day}
 use Rattle.comtrade_cfg.specs.declared.head.ChannelCounts.{ChannelCounts}
 use Rattle.comtrade_cfg.specs.declared.sampling.Sampling.{Sampling}
 use Rattle.comtrade_cfg.specs.declared.cfg.Zone.{Zone}
-use Rattle.comtrade_cfg.specs.declared.fault.CfgFault.{CfgFault}
 use Rattle.comtrade_cfg.specs.declared.fault.CfgFault.TheVariants as fault
 use Rattle.comtrade_cfg.specs.declared.fault.Quantity.{Quantity}
 use Rattle.comtrade_cfg.specs.declared.fault.Quantity.TheVariants as quantity
 use Rattle.comtrade_cfg.specs.Configuration.{Configuration}
-use Rattle.comtrade_cfg.specs.Fields.{Ahead, Reading, LineRule, ahead_of, on_line, channel_count, position_field, decimal_field, frequency_of, frequency_field, is_rate, rate_of, rate_field, samples_field, number_field, moment_fields, fields_of, local_code_of, leap_field, field_or_fault, lettered, hexadecimal}
+use Rattle.comtrade_cfg.specs.Fields.{Ahead, LineRule, ahead_of, on_line, channel_count, position_field, decimal_field, frequency_of, frequency_field, is_rate, rate_of, rate_field, samples_field, number_field, moment_fields, fields_of, local_code_of, leap_field, field_or_fault, lettered, hexadecimal}
 use Rattle.comtrade_cfg.specs.CfgText.{configuration_of, configuration_ahead, channel_lines, counts_line, frequency_line, sampling_line, stamp_line, zone_lines, time_code_line, time_quality_line, analogue_line, status_line, offset_of, IsConfiguration}
 use Rattle.comtrade_cfg.proofs.LinesRead.{LinesRead, lines_read, line_read, from_bind, same_ok}
 use Rattle.comtrade_cfg.proofs.WrittenFacts.{date_civil, IsClockTime, time_clock, code_small}

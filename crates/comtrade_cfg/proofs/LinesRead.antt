@@ -1,5 +1,5 @@
 -- What the lines of a text that says a configuration were read as, one after another.
-use Rattle.std.proofs.Common.{◌≡◌, ℕ, zero, suc, ◌+◌, ℤ, Bool, true, false, Option, Some, None, List, [], ◌∷◌, length, Result, Ok, Err, refl, ap, ◌∙◌, sym, arith}
+use Rattle.std.proofs.Common.{◌≡◌, ℕ, ℤ, Option, List, Result, Ok, ap, ◌∙◌}
 use Rattle.std.specs.Prelude.{◌==◌}
 use Rattle.pq_words.specs.Text.{Text}
 use Rattle.pq_words.specs.FirstFault.{◌>>=◌}
@@ -12,9 +12,8 @@ use Rattle.comtrade_cfg.specs.declared.cfg.FileType.{FileType}
 use Rattle.comtrade_cfg.specs.declared.head.Station.{Station}
 use Rattle.comtrade_cfg.specs.declared.head.ChannelCounts.{ChannelCounts}
 use Rattle.comtrade_cfg.specs.declared.sampling.Sampling.{Sampling}
-use Rattle.comtrade_cfg.specs.declared.fault.CfgFault.{CfgFault}
 use Rattle.comtrade_cfg.specs.Configuration.{Configuration}
-use Rattle.comtrade_cfg.specs.Fields.{Ahead, LineRule, Reading, on_line, next_line, fields_of, only_blank_lines}
+use Rattle.comtrade_cfg.specs.Fields.{Ahead, LineRule, on_line, next_line, fields_of}
 use Rattle.comtrade_cfg.specs.CfgText.{configuration_ahead, channel_lines, station_line, counts_line, analogue_line, status_line, frequency_line, rates_line, sampling_line, stamp_line, file_type_line, timemult_line, zone_lines, offset_of}
 
 -- what each line was read as, and what then lay ahead

@@ -1,10 +1,10 @@
 -- A canonical text put together from its pieces.
-use Rattle.std.proofs.Common.{◌≡◌, ℕ, ◌+◌, ◌-◌, ◌/◌, ◌%◌, ◌==◌, Bool, true, false, cond, ◌&&◌, ℤ, List, [], ◌∷◌, ◌++◌, map, take, drop, length, get_or, ◌<◌, append_assoc, append-nil, refl, sym, ap, ◌∙◌, arith}
-use Rattle.std.specs.List.{flat_map, ends_with}
+use Rattle.std.proofs.Common.{◌≡◌, ℕ, ◌+◌, ◌/◌, ◌%◌, ◌==◌, Bool, true, false, cond, ◌&&◌, ℤ, List, [], ◌∷◌, ◌++◌, map, take, drop, length, get_or, ◌<◌, append_assoc, refl, sym, ap, ◌∙◌, arith}
+use Rattle.std.specs.List.{ends_with}
 use Rattle.std.specs.Prelude.{nat_eq}
 use Rattle.std.proofs.lemmas.Bool.{eq-eqb, ne_eqb, eqb-true, eqb-false}
 use Rattle.pq_words.specs.Text.{Text, padded}
-use Rattle.pq_time.specs.Printed.{printed_moment, date_shown, time_shown, since_1600, hms_text}
+use Rattle.pq_time.specs.Printed.{printed_moment, date_shown, time_shown, hms_text}
 use Rattle.std.specs.Prelude.{decimal}
 use Rattle.std.proofs.lemmas.List.{take_more, map_push, length-map, length-take-le, flat_map_more}
 use Rattle.comtrade_cfg.specs.Canonical.{date_text, time_text, fraction_text, row_of, rate_text, stamp_text, file_type_text, analogue_fields, status_fields, numbered_rows, zone_rows, canonical_text}

@@ -1,21 +1,17 @@
 -- A canonical text says the configuration that it is printed of.
-use Rattle.std.proofs.Common.{◌≡◌, ℕ, ◌+◌, ◌≤◌, ◌==◌, nat_le, Bool, cond, ℤ, List, [], ◌∷◌, ◌++◌, map, length, Option, Some, None, Result, Ok, Err, refl, sym, subst, ap, ◌∙◌, arith, append_assoc}
+use Rattle.std.proofs.Common.{◌≡◌, ℕ, ◌+◌, ◌==◌, cond, ℤ, List, [], ◌∷◌, ◌++◌, map, length, Ok, Err, refl, ap, ◌∙◌, arith, append_assoc}
 use Rattle.std.specs.Prelude.{decimal}
 use Rattle.std.specs.List.{AllByRecursion}
 use Rattle.std.specs.Str.Lines.{lines}
 use Rattle.std.proofs.lemmas.Bool.{le-leb}
 use Rattle.jiff_core.proofs.SignedLemmas.{signed_arith}
 use Rattle.pq_words.specs.Text.{Text}
-use Rattle.pq_words.specs.FirstFault.{◌>>=◌}
 use Rattle.pq_time.specs.Moment.{utc_of, written_of}
-use Rattle.comtrade_cfg.specs.declared.cfg.Analogue.{Analogue}
-use Rattle.comtrade_cfg.specs.declared.cfg.StatusLine.{StatusLine}
-use Rattle.comtrade_cfg.specs.declared.fault.CfgFault.{CfgFault}
 use Rattle.comtrade_cfg.specs.declared.fault.CfgFault.TheVariants as fault
 use Rattle.comtrade_cfg.specs.declared.fault.Quantity.TheVariants as quantity
 use Rattle.comtrade_cfg.specs.Configuration.{Configuration}
 use Rattle.comtrade_cfg.specs.Fields.{Ahead, ahead_of, on_line, only_blank_lines}
-use Rattle.comtrade_cfg.specs.CfgText.{IsConfiguration, IsCfgOf, configuration_of, configuration_ahead, channel_lines, station_line, counts_line, analogue_line, status_line, frequency_line, rates_line, sampling_line, stamp_line, file_type_line, timemult_line, zone_lines, offset_of}
+use Rattle.comtrade_cfg.specs.CfgText.{configuration_of, configuration_ahead, channel_lines, station_line, counts_line, analogue_line, status_line, frequency_line, rates_line, sampling_line, stamp_line, file_type_line, timemult_line, zone_lines, offset_of}
 use Rattle.comtrade_cfg.specs.Canonical.{row_of, rate_text, stamp_text, date_text, time_text, file_type_text, analogue_fields, status_fields, numbered_rows, zone_rows, canonical_lines, canonical_text, ReadsBack}
 use Rattle.comtrade_cfg.specs.CanonicalParts.{lines_text}
 use Rattle.pq_time.specs.Printed.{date_shown, time_shown}

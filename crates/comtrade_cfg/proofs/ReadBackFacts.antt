@@ -1,16 +1,13 @@
 -- What holds of a configuration that some text says: the facts by which its canonical text is read back.
-use Rattle.std.proofs.Common.{◌≡◌, ℕ, zero, suc, ◌+◌, ◌*◌, ◌^◌, ◌<◌, ◌≤◌, ◌⊎◌, inl, inr, ◌==◌, ◌||◌, not, Bool, true, false, cond, ℤ, pos, ◌+ℤ◌, ◌-ℤ◌, ◌*ℤ◌, List, [], ◌∷◌, length, Option, Some, None, Result, Ok, Err, refl, sym, subst, ap, ◌∙◌, arith}
+use Rattle.std.proofs.Common.{◌≡◌, ℕ, zero, suc, ◌+◌, ◌<◌, ◌⊎◌, inl, inr, ◌==◌, ◌||◌, not, Bool, true, false, cond, ℤ, List, [], ◌∷◌, Option, Some, None, Ok, refl, sym, subst, ap, ◌∙◌, arith}
 use Rattle.std.specs.List.{list_any, AllByRecursion}
 use Rattle.std.specs.Option.{ForSome, option_map}
 use Rattle.std.specs.Prelude.{codes}
 use Rattle.std.specs.Str.{str_eq_ignore_ascii_case}
-use Rattle.std.specs.Char.{digit_value}
-use Rattle.std.specs.Str.Lines.{lines}
 use Rattle.std.proofs.lemmas.Bool.{eqb-true}
 use Rattle.jiff_core.proofs.SignedLemmas.{signed_arith}
 use Rattle.pq_words.specs.Text.{Text}
 use Rattle.pq_words.specs.Magnitude.{IsWithin}
-use Rattle.pq_words.specs.FirstFault.{provided}
 use Rattle.pq_words.proofs.ReadingLemmas.{provided_ok, some_ok}
 use Rattle.pq_base.specs.declared.decimal.Scaled.{Scaled}
 use Rattle.pq_base.specs.Decimal.{decimal_of}
@@ -20,12 +17,11 @@ use Rattle.comtrade_cfg.specs.declared.cfg.Analogue.{Analogue}
 use Rattle.comtrade_cfg.specs.declared.cfg.StatusLine.{StatusLine}
 use Rattle.comtrade_cfg.specs.declared.cfg.Zone.{Zone}
 use Rattle.comtrade_cfg.specs.declared.head.Station.{Station}
-use Rattle.comtrade_cfg.specs.declared.fault.CfgFault.{CfgFault}
 use Rattle.comtrade_cfg.specs.declared.fault.CfgFault.TheVariants as fault
 use Rattle.comtrade_cfg.specs.declared.fault.Unsupported.TheVariants as unsupported
 use Rattle.comtrade_cfg.specs.Configuration.{Configuration}
-use Rattle.comtrade_cfg.specs.Fields.{Ahead, Reading, LineRule, ahead_of, line_of, on_line, fields_of, text_field, number_field, position_field, decimal_text, decimal_field, field_or_fault, hexadecimal, leap_digit, leap_field, local_code_of}
-use Rattle.comtrade_cfg.specs.CfgText.{IsConfiguration, configuration_of, channel_lines, station_line, station_fields, counts_line, analogue_line, analogue_fields, status_line, status_fields, frequency_line, rates_line, sampling_line, stamp_line, file_type_line, timemult_line, time_code_line, time_quality_line, zone_lines, offset_of}
+use Rattle.comtrade_cfg.specs.Fields.{Ahead, LineRule, ahead_of, line_of, on_line, fields_of, text_field, number_field, position_field, decimal_text, decimal_field, field_or_fault, hexadecimal, leap_digit, leap_field, local_code_of}
+use Rattle.comtrade_cfg.specs.CfgText.{IsConfiguration, channel_lines, station_line, station_fields, counts_line, analogue_line, analogue_fields, status_line, status_fields, frequency_line, rates_line, sampling_line, stamp_line, file_type_line, timemult_line, time_code_line, time_quality_line, zone_lines, offset_of}
 use Rattle.comtrade_cfg.proofs.ReadBackText.{IsFree, IsField}
 use Rattle.comtrade_cfg.proofs.CanonicalFacts.{fields_are, lines_are}
 use Rattle.comtrade_cfg.proofs.LinesRead.{LinesRead, line_read, from_bind, same_ok}

@@ -1,14 +1,13 @@
 -- Each line of a canonical text is read back.
-use Rattle.std.proofs.Common.{◌≡◌, ℕ, zero, suc, ◌+◌, ◌*◌, ◌^◌, ◌<◌, ◌≤◌, ◌⊎◌, inl, inr, ◌==◌, ◌||◌, ◌&&◌, not, nat_le, Bool, true, false, cond, ℤ, pos, List, [], ◌∷◌, ◌++◌, map, length, Option, Some, None, Result, Ok, Err, refl, sym, subst, ap, ◌∙◌, arith}
+use Rattle.std.proofs.Common.{◌≡◌, ℕ, ◌+◌, ◌*◌, ◌^◌, ◌<◌, ◌≤◌, ◌⊎◌, inl, inr, ◌==◌, ◌||◌, not, nat_le, Bool, true, cond, ℤ, List, [], ◌∷◌, ◌++◌, map, length, Option, Some, None, Result, Ok, refl, sym, subst, ap, ◌∙◌, arith}
 use Rattle.std.specs.Prelude.{decimal}
-use Rattle.std.specs.Option.{ok_or, ForSome}
+use Rattle.std.specs.Option.{ok_or}
 use Rattle.std.specs.List.{list_any, AllByRecursion}
 use Rattle.std.specs.Fmt.{digits}
 use Rattle.std.proofs.lemmas.Bool.{and_from, eq-eqb, le-leb}
 use Rattle.pq_words.specs.Text.{Text}
-use Rattle.pq_words.specs.Magnitude.{IsWithin}
 use Rattle.pq_words.specs.FirstFault.{◌>>=◌, provided}
-use Rattle.pq_base.specs.Decimal.{decimal_of, shifted}
+use Rattle.pq_base.specs.Decimal.{decimal_of}
 use Rattle.pq_time.specs.Moment.{written_moment}
 use Rattle.pq_time.specs.Written.{code_of}
 use Rattle.pq_time.specs.Printed.{date_shown, time_shown}
@@ -17,12 +16,11 @@ use Rattle.comtrade_cfg.specs.declared.cfg.StatusLine.{StatusLine}
 use Rattle.comtrade_cfg.specs.declared.cfg.Zone.{Zone}
 use Rattle.comtrade_cfg.specs.declared.cfg.FileType.{FileType}
 use Rattle.comtrade_cfg.specs.declared.cfg.FileType.TheVariants.{Binary}
-use Rattle.comtrade_cfg.specs.declared.fault.CfgFault.{CfgFault}
 use Rattle.comtrade_cfg.specs.declared.fault.CfgFault.TheVariants as fault
 use Rattle.comtrade_cfg.specs.declared.fault.Quantity.{Quantity}
 use Rattle.comtrade_cfg.specs.declared.fault.Quantity.TheVariants as quantity
 use Rattle.comtrade_cfg.specs.declared.fault.Unsupported.TheVariants as unsupported
-use Rattle.comtrade_cfg.specs.Fields.{Ahead, Reading, LineRule, on_line, fields_of, text_field, number_field, position_field, decimal_text, decimal_field, field_or_fault, channel_count, lettered, frequency_field, rate_field, rate_of, is_rate, samples_field, moment_fields, hexadecimal, leap_digit, leap_field, local_code_of}
+use Rattle.comtrade_cfg.specs.Fields.{Reading, LineRule, on_line, text_field, number_field, position_field, decimal_text, decimal_field, field_or_fault, channel_count, lettered, frequency_field, rate_field, rate_of, is_rate, samples_field, moment_fields, hexadecimal, leap_digit, leap_field, local_code_of}
 use Rattle.comtrade_cfg.specs.CfgText.{channel_lines, station_line, station_fields, counts_line, analogue_line, analogue_fields as analogue_read, status_line, status_fields as status_read, frequency_line, rates_line, sampling_line, stamp_line, file_type_line, timemult_line, time_code_line, time_quality_line, zone_lines}
 use Rattle.comtrade_cfg.specs.Canonical.{row_of, rate_text, stamp_text, date_text, time_text, code_text, hexadecimal_text, file_type_text, analogue_fields, status_fields, numbered_rows, zone_rows}
 use Rattle.comtrade_cfg.specs.CanonicalParts.{local_code_text}

@@ -1,15 +1,13 @@
 -- A date, a time and a time code that were printed are read back.
-use Rattle.std.proofs.Common.{◌≡◌, ℕ, zero, suc, ◌+◌, ◌-◌, ◌*◌, ◌/◌, ◌%◌, ◌^◌, ◌<◌, ◌≤◌, ◌==◌, ◌&&◌, nat_le, nat_lt, Bool, true, false, cond, ℤ, pos, negsuc, neg_ℤ, ◌+ℤ◌, ◌*ℤ◌, ◌≤ℤ◌, unsigned_abs, List, [], ◌∷◌, ◌++◌, get_or, length, Option, Some, None, Ok, refl, sym, subst, ap, ◌∙◌, arith, add-one, append_assoc}
-use Rattle.std.specs.Prelude.{decimal, codes, option_map, option_and_then}
+use Rattle.std.proofs.Common.{◌≡◌, ℕ, ◌+◌, ◌-◌, ◌*◌, ◌/◌, ◌%◌, ◌^◌, ◌<◌, ◌≤◌, ◌==◌, ◌&&◌, nat_le, nat_lt, Bool, true, false, cond, ℤ, pos, negsuc, neg_ℤ, ◌+ℤ◌, unsigned_abs, [], ◌∷◌, ◌++◌, length, Option, Some, None, Ok, refl, sym, ap, ◌∙◌, arith, add-one}
+use Rattle.std.specs.Prelude.{decimal, option_map, option_and_then}
 use Rattle.std.specs.List.{list_any, list_all}
 use Rattle.std.specs.Char.{is_ascii_digit}
-use Rattle.std.specs.Str.{str_eq_ignore_ascii_case}
-use Rattle.std.proofs.lemmas.Bool.{and_from, and_parts, le-leb, lt-ltb, eq-eqb, eqb-true, ne_eqb}
+use Rattle.std.proofs.lemmas.Bool.{and_from, and_parts, le-leb, lt-ltb, eq-eqb, eqb-true}
 use Rattle.std.proofs.lemmas.Bool.Decides.{nat_tests}
 use Rattle.std.proofs.lemmas.List.{append-nil}
 use Rattle.std.proofs.lemmas.Fmt.{decimal_is_IsNumeral}
-use Rattle.jiff_core.specs.Calendar.{days_in_month, days_from_civil}
-use Rattle.jiff_core.specs.declared.civil.date.Date.{Date}
+use Rattle.jiff_core.specs.Calendar.{days_in_month}
 use Rattle.jiff_core.proofs.SignedLemmas.{signed_arith}
 use borrow.Author.Differences.{up, down}
 use Rattle.pq_words.specs.Text.{Text, padded, parted_at, digits_between}
@@ -18,11 +16,11 @@ use Rattle.pq_time.specs.Written.{CivilDate, TimeOfDay, is_civil_date, is_time_o
 use Rattle.pq_time.specs.Moment.{moment_at, nanoseconds_in_day, day_number, moment_read, written_moment}
 use Rattle.pq_time.specs.Printed.{date_shown, time_shown, date_from_year, since_1600, hms_text}
 use Rattle.pq_time.proofs.DayLemmas.{shows_day}
-use Rattle.comtrade_cfg.specs.Canonical.{date_text, time_text, fraction_text, stamp_text, offset_text, code_text}
+use Rattle.comtrade_cfg.specs.Canonical.{date_text, time_text, fraction_text, offset_text, code_text}
 use Rattle.comtrade_cfg.proofs.WrittenFacts.{IsClockTime}
 use Rattle.comtrade_cfg.proofs.ConfigurationBounds.{IsCivil, civil, date_in, day_between, nanoseconds_bound}
 use Rattle.comtrade_cfg.proofs.ReadBackText.{split_free, split_at, free_joined}
-use Rattle.comtrade_cfg.proofs.ReadBackNumbers.{padded_back, padded_within, padded_digits, length-padded, decimal_within, decimal_digits, digits_free, IsPlain, plain_padded, plain_joined, plain_decimal}
+use Rattle.comtrade_cfg.proofs.ReadBackNumbers.{padded_back, padded_within, padded_digits, decimal_within, decimal_digits, digits_free, IsPlain, plain_padded, plain_joined}
 
 -- ---- dates
 

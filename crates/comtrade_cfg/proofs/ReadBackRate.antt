@@ -1,14 +1,14 @@
 -- A sampling rate, a time quality and a local code that were printed are read back.
-use Rattle.std.proofs.Common.{◌≡◌, ℕ, zero, suc, ◌+◌, ◌-◌, ◌*◌, ◌/◌, ◌%◌, ◌^◌, ◌<◌, ◌≤◌, ◌⊎◌, inl, inr, ◌==◌, ◌||◌, ◌&&◌, nat_le, nat_lt, Bool, true, false, cond, ℤ, pos, negsuc, neg_ℤ, ◌+ℤ◌, ◌-ℤ◌, List, [], ◌∷◌, ◌++◌, map, length, Option, Some, None, Result, Ok, refl, sym, subst, ap, ◌∙◌, arith, add-one, append_assoc}
+use Rattle.std.proofs.Common.{◌≡◌, ℕ, ◌+◌, ◌*◌, ◌/◌, ◌%◌, ◌^◌, ◌<◌, ◌≤◌, ◌⊎◌, inl, inr, ◌==◌, ◌||◌, ◌&&◌, nat_lt, Bool, true, false, cond, ℤ, pos, negsuc, ◌-ℤ◌, [], ◌∷◌, ◌++◌, map, length, Option, Some, None, refl, sym, subst, ap, ◌∙◌, arith}
 use lib.Pointwise.{pointwise}
 use Rattle.std.specs.Prelude.{nat_eq, decimal, codes, option_map}
-use Rattle.std.specs.Option.{option_map_or, ForSome}
-use Rattle.std.specs.List.{list_any, list_all, slice_split}
+use Rattle.std.specs.Option.{ForSome}
+use Rattle.std.specs.List.{list_any, list_all}
 use Rattle.std.specs.Char.{is_ascii_digit, digit_value, to_ascii_lowercase}
 use Rattle.std.specs.Str.{str_eq_ignore_ascii_case}
 use Rattle.std.specs.Str.Parse.{digits_value, digits_value_after}
 use Rattle.std.specs.Fmt.{digits}
-use Rattle.std.proofs.lemmas.Bool.{and_from, and_parts, eqb-true, eqb-false, le-leb, lt-ltb, ne_eqb}
+use Rattle.std.proofs.lemmas.Bool.{and_from, and_parts, eqb-true, eqb-false, lt-ltb}
 use Rattle.std.proofs.lemmas.Bool.Decides.{nat_tests}
 use Rattle.std.proofs.lemmas.Fmt.{decimal_is_IsNumeral, length-decimal-le}
 use Rattle.std.proofs.lemmas.List.{append-nil, length-append}
@@ -17,15 +17,15 @@ use Rattle.jiff_core.proofs.SignedLemmas.{signed_arith}
 use Rattle.pq_words.specs.Text.{Text, padded, parted_at, digits_between}
 use Rattle.pq_words.specs.Magnitude.{IsWithin}
 use Rattle.pq_base.specs.declared.decimal.Scaled.{Scaled}
-use Rattle.pq_base.specs.Decimal.{decimal_of, signed_text, is_exponent_mark, mantissa_of, scaled_by, shifted}
+use Rattle.pq_base.specs.Decimal.{decimal_of, signed_text, is_exponent_mark, mantissa_of, shifted}
 use Rattle.pq_base.proofs.DecimalLemmas.{decimal_without}
 use Rattle.pq_base.proofs.DigitsLemmas.{digits_joined}
 use Rattle.pq_time.specs.Written.{code_of}
 use Rattle.comtrade_cfg.specs.Canonical.{rate_text, hexadecimal_text, offset_text, code_text}
 use Rattle.comtrade_cfg.specs.CanonicalParts.{local_code_text}
 use Rattle.comtrade_cfg.specs.Fields.{hexadecimal, leap_digit, local_code_of}
-use Rattle.comtrade_cfg.proofs.ReadBackText.{or_false, split_free, split_at}
-use Rattle.comtrade_cfg.proofs.ReadBackNumbers.{digits_back, decimal_digits, decimal_within, padded_digits, padded_after, length-padded, digits_free, is_plain, IsPlain, plain_joined, plain_decimal, plain_padded}
+use Rattle.comtrade_cfg.proofs.ReadBackText.{split_free, split_at}
+use Rattle.comtrade_cfg.proofs.ReadBackNumbers.{digits_back, decimal_digits, decimal_within, padded_digits, padded_after, digits_free, is_plain, IsPlain, plain_joined, plain_decimal, plain_padded}
 use Rattle.comtrade_cfg.proofs.ReadBackMoments.{BeginsWithDigit, decimal_begins, code_back}
 
 -- ---- decimals

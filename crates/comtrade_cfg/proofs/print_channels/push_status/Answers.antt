@@ -1,4 +1,4 @@
-use Rattle.std.proofs.Common.{◌≡◌, ◌<◌, length, arith}
+use Rattle.std.proofs.Common.{◌<◌, length, arith}
 use Rattle.comtrade_cfg.specs.Canonical.{status_fields}
 use Rattle.comtrade_cfg.proofs.PrintLemmas.{line_more}
 use Rattle.comtrade_cfg.proofs.print_channels.push_status.Goals as goal
