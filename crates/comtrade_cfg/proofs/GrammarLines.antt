@@ -84,7 +84,10 @@ counts_found line (total ∷ na ∷ nd ∷ []) analogue status e =
     let fa = count_found 65 quantity.Analogue line 2 na a a_is in
     let fd = count_found 68 quantity.Status line 3 nd d d_is in
     record {
-      total = total; na = na; nd = nd; fields_are = refl;
+      total = total;
+      na = na;
+      nd = nd;
+      fields_are = refl;
       na_is = fa.0 ∙ ap Some same_a;
       nd_is = fd.0 ∙ ap Some same_d;
       total_is = position_found (a + d) line 1 total t t_is ∙ ap (λ a. Some (a + d)) same_a ∙ ap (λ d. Some (analogue + d)) same_d;
@@ -121,9 +124,12 @@ analogue_fields_found position line an id phase component unit a b skew min max 
     text_step line 12 secondary _ ch e (λ h12 e.
     text_step line 13 ps _ ch e (λ h13 e.
     subst (IsAnalogueLine position (an ∷ id ∷ phase ∷ component ∷ unit ∷ a ∷ b ∷ skew ∷ min ∷ max ∷ primary ∷ secondary ∷ ps ∷ [])) (same_ok e) (record {
-      an = an; fields_are = refl; an_is = position_found position line 1 an n n_is;
+      an = an;
+      fields_are = refl;
+      an_is = position_found position line 1 an n n_is;
       texts = (h2, (h3, (h4, (h5, (h8, (h9, (h10, (h11, (h12, (h13, tt))))))))));
-      a_is = h6; b_is = h7;
+      a_is = h6;
+      b_is = h7;
     }))))))))))))))
 
 -- an analogue channel line that was read

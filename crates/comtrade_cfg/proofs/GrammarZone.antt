@@ -34,7 +34,9 @@ codes_found line (time_code ∷ local_code ∷ []) x e =
     let same_t : t ≡ x.0 = ap (λ (x : ℤ × Option ℤ). x.0) (same_ok e) in
     let same_l : l ≡ x.1 = ap (λ (x : ℤ × Option ℤ). x.1) (same_ok e) in
     record {
-      time_code = time_code; local_code = local_code; are = refl;
+      time_code = time_code;
+      local_code = local_code;
+      are = refl;
       time_code_is = some_ok (code_of time_code) (fault.Field line 1) t t_is ∙ ap Some same_t;
       local_code_is = some_ok (local_code_of local_code) (fault.Field line 2) l l_is ∙ ap Some same_l;
     }))
@@ -58,9 +60,12 @@ quality_found line (tmq_code ∷ leapsec ∷ []) x e =
     let same_l : l ≡ x.1 = ap (λ (x : ℕ × ℕ). x.1) (same_ok e) in
     let leap = leap_found line 2 leapsec x.1 (l_is ∙ ap Ok same_l) in
     record {
-      tmq_code = tmq_code; leapsec = leapsec; are = refl;
+      tmq_code = tmq_code;
+      leapsec = leapsec;
+      are = refl;
       tmq_code_is = some_ok (hexadecimal tmq_code) (fault.Field line 1) q q_is ∙ ap Some same_q;
-      leapsec_is = leap.0; known = leap.1;
+      leapsec_is = leap.0;
+      known = leap.1;
     }))
 quality_found line (a ∷ b ∷ c ∷ more) x e = absurd cc
 
@@ -95,11 +100,24 @@ both_found text revision i k start y n is s e =
     let q = quality_found (k + 1) (fields_at text (k + 1)) quality.0 second.0 in
     let m : k + 1 ≡ i + 2 = omega (arith, n) in
     subst (Found text revision i k) (same_ok e) (
-      (is, record {
-        time_code = c.time_code; local_code = c.local_code; codes_are = c.are; time_code_is = c.time_code_is; local_code_is = c.local_code_is;
-        tmq_code = q.tmq_code; leapsec = q.leapsec; quality_are = q.are; tmq_code_is = q.tmq_code_is; leapsec_is = q.leapsec_is; known = q.known;
-      }),
-      second.1 ∙ ap (place text) m)))
+      (
+        is,
+        record {
+          time_code = c.time_code;
+          local_code = c.local_code;
+          codes_are = c.are;
+          time_code_is = c.time_code_is;
+          local_code_is = c.local_code_is;
+          tmq_code = q.tmq_code;
+          leapsec = q.leapsec;
+          quality_are = q.are;
+          tmq_code_is = q.tmq_code_is;
+          leapsec_is = q.leapsec_is;
+          known = q.known;
+        },
+      ),
+      second.1 ∙ ap (place text) m,
+    )))
 
 -- the zone that was read: line k is the first of it
 pub zone_found : (text : List Text) (revision i k : ℕ) (start : Ahead) (y : Option Zone × Ahead) → k ≡ i + 1 → (revision ≡ 1999) ⊎ (revision ≡ 2013) → start ≡ place text i

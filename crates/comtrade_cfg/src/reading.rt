@@ -1,9 +1,11 @@
 // The whole of a cfg.
-ghost use Rattle.comtrade_cfg.specs.Configuration.{view};
+ghost use Rattle.comtrade_cfg.specs.Configuration.{Configuration, view};
 ghost use Rattle.comtrade_cfg.specs.Cursor.{ahead};
 ghost use Rattle.comtrade_cfg.specs.Fields.{Gives};
 ghost use Rattle.comtrade_cfg.specs.CfgText.{GivesCfg, configuration_ahead, offset_of};
-ghost use Rattle.std.specs.Prelude.{◌≡◌};
+ghost use Rattle.std.specs.Prelude.{◌≡◌, IfErr, IfOk};
+ghost use Rattle.comtrade_cfg.specs.Grammar.{IsCfgText};
+ghost use Rattle.comtrade_cfg.specs.declared.fault.CfgFault.TheVariants as fault;
 ghost use Rattle.std.specs.Option.{ForSome};
 ghost use Rattle.pq_words.specs.Magnitude.{IsWithin};
 
@@ -70,16 +72,9 @@ fn read_lines(alloc: Global, cursor: Cursor) -> Result<Cfg, CfgFault>
     })
 }
 
-/// Reads a configuration of COMTRADE, revision 1999 or 2013.
-///
-/// # Errors
-///
-/// The first fault in this order: more than 1,048,576 bytes; then line by line, and in a line a wrong
-/// number of fields, and the fields from left to right, where the total of line 2 is judged last;
-/// within a field one that is not readable, then one that is not supported, then a limit. Lines and
-/// fields count from 1. [`CfgFault::OutOfMemory`] may come at any place.
+// The configuration of a text, or its first fault.
 #[tactic(auto, unfolding(crate::specs::CfgText::configuration_of))]
-pub fn read_cfg(alloc: Global, bytes: &[u8]) -> Result<Cfg, CfgFault>
+fn read(alloc: Global, bytes: &[u8]) -> Result<Cfg, CfgFault>
     ensures { GivesCfg result bytes.now }
 {
     if bytes.len() > MOST_BYTES {
@@ -95,4 +90,20 @@ pub fn read_cfg(alloc: Global, bytes: &[u8]) -> Result<Cfg, CfgFault>
             rest: bytes,
         },
     )
+}
+
+/// Reads a configuration of COMTRADE, revision 1999 or 2013.
+///
+/// # Errors
+///
+/// The first fault in this order: more than 1,048,576 bytes; then line by line, and in a line a wrong
+/// number of fields, and the fields from left to right, where the total of line 2 is judged last;
+/// within a field one that is not readable, then one that is not supported, then a limit. Lines and
+/// fields count from 1. [`CfgFault::OutOfMemory`] may come at any place.
+pub fn read_cfg(alloc: Global, bytes: &[u8]) -> Result<Cfg, CfgFault>
+    ensures value { GivesCfg result bytes.now }
+    ensures found { IfOk result (λ cfg. IsCfgText bytes.now (view cfg)) }
+    ensures only { (c : Configuration) → IsCfgText bytes.now c → IfErr result (λ e. e ≡ fault.OutOfMemory) }
+{
+    read(alloc, bytes)
 }
