@@ -99,17 +99,19 @@ unfolding channel_lines
 channels_found {A} rule text position zero i j start y m s e =
     let same = same_ok e in
     let none : [] ≡ y.0 = ap (λ (z : List A × Ahead). z.0) same in
-    let same_j : i ≡ j = omega (arith, m) in
-    (λ k p l x there at_p at_l. absurd (let h : slice_get {X = A} [] k ≡ Some x = ap (λ xs. slice_get xs k) none ∙ there in cc),
-    sym (ap (λ (z : List A × Ahead). z.1) same) ∙ s ∙ ap (place text) same_j)
+    let same_j : i ≡ j = omega (arith, m) in (
+      λ k p l x there at_p at_l. absurd (let h : slice_get {X = A} [] k ≡ Some x = ap (λ xs. slice_get xs k) none ∙ there in cc),
+      sym (ap (λ (z : List A × Ahead). z.1) same) ∙ s ∙ ap (place text) same_j,
+    )
 channels_found {A} rule text position (suc n) i j start y m s e =
     from_bind (on_line (rule position) start) _ y e (λ first first_is e. from_bind (channel_lines rule (position + 1) n first.1) _ y e (λ others others_is e.
     let same = same_ok e in
     let all : first.0 ∷ others.0 ≡ y.0 = ap (λ (z : List A × Ahead). z.0) same in
     let one = line_found (rule position) text i (i + 1) start first refl s first_is in
-    let more = channels_found rule text (position + 1) n (i + 1) j first.1 others (omega (arith, m)) one.1 others_is in
-    (λ k p l x there at_p at_l. each first.0 others.0 one.0 more.0 k p l x (ap (λ xs. slice_get xs k) all ∙ there) at_p at_l,
-    sym (ap (λ (z : List A × Ahead). z.1) same) ∙ more.1)))
+    let more = channels_found rule text (position + 1) n (i + 1) j first.1 others (omega (arith, m)) one.1 others_is in (
+      λ k p l x there at_p at_l. each first.0 others.0 one.0 more.0 k p l x (ap (λ xs. slice_get xs k) all ∙ there) at_p at_l,
+      sym (ap (λ (z : List A × Ahead). z.1) same) ∙ more.1,
+    )))
   where
     each : (x : A) (xs : List A) → rule position (i + 1) (fields_at text (i + 1)) ≡ Ok x → Each rule text (position + 1) (i + 1) xs → Each rule text position i (x ∷ xs)
     each x xs first others zero p l y there at_p at_l =
@@ -145,6 +147,7 @@ behind_get (x ∷ xs) (suc i) j (suc k) n = behind_get xs i j k (omega (arith, n
 abbrev AreBlank : List Text → Type 0
 AreBlank lines = (k : ℕ) (line : Text) → slice_get lines k ≡ Some line → IsTrue (is_all_blank line)
 
+-- the lines that were read over are blank
 blank_in : (number : ℕ) (lines : List Text) (u : Unit {0}) → only_blank_lines number lines ≡ Ok u → AreBlank lines
 blank_in number [] u e = λ k line there. absurd cc
 blank_in number (l ∷ ls) u e = at (is_all_blank l) refl e (λ e. blank_in (number + 1) ls u e)
@@ -161,6 +164,7 @@ blank_found text i a u s e k line le there =
     let read : only_blank_lines (i + 1) (drop i text) ≡ Ok u = ap (λ (a : Ahead). only_blank_lines a.number a.lines) (sym s) ∙ e in
     blank_in (i + 1) (drop i text) u read (k - i) line (behind_get text i (k - i) k (omega (arith, le)) ∙ there)
 
+-- blank lines are read over
 blank_out : (number : ℕ) (lines : List Text) → AreBlank lines → only_blank_lines number lines ≡ Ok tt
 blank_out number [] h = refl
 blank_out number (l ∷ ls) h =

@@ -1,13 +1,11 @@
 -- The lines of the zone: revision 2013 has two of them, and 1999 has none.
-use Rattle.std.proofs.Common.{◌≡◌, ℕ, zero, suc, ◌+◌, ◌⊎◌, inl, inr, Bool, true, false, Option, Some, None, List, [], ◌∷◌, ℤ, Result, Ok, Err, refl, sym, subst, ap, ◌∙◌, arith, ◌==◌}
+use Rattle.std.proofs.Common.{◌≡◌, ℕ, ◌+◌, ◌⊎◌, inl, inr, true, false, Option, Some, None, List, [], ◌∷◌, ℤ, Ok, refl, sym, subst, ap, ◌∙◌, arith, ◌==◌}
 use Rattle.std.specs.Option.{option_map_or}
-use Rattle.std.proofs.lemmas.Bool.{eqb-true, eq-eqb, ne_eqb}
+use Rattle.std.proofs.lemmas.Bool.{eq-eqb, ne_eqb}
 use Rattle.pq_words.specs.Text.{Text}
-use Rattle.pq_words.specs.FirstFault.{◌>>=◌}
 use Rattle.pq_words.proofs.ReadingLemmas.{some_ok}
 use Rattle.pq_time.specs.Written.{code_of}
 use Rattle.comtrade_cfg.specs.declared.cfg.Zone.{Zone}
-use Rattle.comtrade_cfg.specs.declared.fault.CfgFault.{CfgFault}
 use Rattle.comtrade_cfg.specs.declared.fault.CfgFault.TheVariants as fault
 use Rattle.comtrade_cfg.specs.Fields.{Ahead, on_line, field_or_fault, hexadecimal, leap_digit, leap_field, local_code_of}
 use Rattle.comtrade_cfg.specs.CfgText.{time_code_line, time_quality_line, zone_lines}
@@ -26,6 +24,7 @@ record HoldsCodes (fields : List Text) (x : ℤ × Option ℤ) : Type 0 where
   pub time_code_is : code_of time_code ≡ Some x.0
   pub local_code_is : local_code_of local_code ≡ Some x.1
 
+-- the time code line that was read
 codes_found : (line : ℕ) (fields : List Text) (x : ℤ × Option ℤ) → time_code_line line fields ≡ Ok x → HoldsCodes fields x
 codes_found line [] x e = absurd cc
 codes_found line (a ∷ []) x e = absurd cc
@@ -34,7 +33,9 @@ codes_found line (time_code ∷ local_code ∷ []) x e =
     let same_t : t ≡ x.0 = ap (λ (x : ℤ × Option ℤ). x.0) (same_ok e) in
     let same_l : l ≡ x.1 = ap (λ (x : ℤ × Option ℤ). x.1) (same_ok e) in
     record {
-      time_code = time_code; local_code = local_code; are = refl;
+      time_code = time_code;
+      local_code = local_code;
+      are = refl;
       time_code_is = some_ok (code_of time_code) (fault.Field line 1) t t_is ∙ ap Some same_t;
       local_code_is = some_ok (local_code_of local_code) (fault.Field line 2) l l_is ∙ ap Some same_l;
     }))
@@ -49,6 +50,7 @@ record HoldsQuality (fields : List Text) (x : ℕ × ℕ) : Type 0 where
   pub leapsec_is : leap_digit leapsec ≡ Some x.1
   pub known : (x.1 ≡ 0) ⊎ (x.1 ≡ 3)
 
+-- the time quality line that was read
 quality_found : (line : ℕ) (fields : List Text) (x : ℕ × ℕ) → time_quality_line line fields ≡ Ok x → HoldsQuality fields x
 quality_found line [] x e = absurd cc
 quality_found line (a ∷ []) x e = absurd cc
@@ -58,18 +60,23 @@ quality_found line (tmq_code ∷ leapsec ∷ []) x e =
     let same_l : l ≡ x.1 = ap (λ (x : ℕ × ℕ). x.1) (same_ok e) in
     let leap = leap_found line 2 leapsec x.1 (l_is ∙ ap Ok same_l) in
     record {
-      tmq_code = tmq_code; leapsec = leapsec; are = refl;
+      tmq_code = tmq_code;
+      leapsec = leapsec;
+      are = refl;
       tmq_code_is = some_ok (hexadecimal tmq_code) (fault.Field line 1) q q_is ∙ ap Some same_q;
-      leapsec_is = leap.0; known = leap.1;
+      leapsec_is = leap.0;
+      known = leap.1;
     }))
 quality_found line (a ∷ b ∷ c ∷ more) x e = absurd cc
 
+-- a time code line is read
 codes_again : (line : ℕ) (codes quality : List Text) (z : Zone) → AreZoneLines codes quality z → time_code_line line codes ≡ Ok (z.time_code, z.local_code)
 codes_again line codes quality z h =
     ap (time_code_line line) h.codes_are
     ∙ goes (field_or_fault line 1 (code_of h.time_code)) _ z.time_code (ap (λ o. field_or_fault line 1 o) h.time_code_is)
     ∙ goes (field_or_fault line 2 (local_code_of h.local_code)) _ z.local_code (ap (λ o. field_or_fault line 2 o) h.local_code_is)
 
+-- a time quality line is read
 quality_again : (line : ℕ) (codes quality : List Text) (z : Zone) → AreZoneLines codes quality z → time_quality_line line quality ≡ Ok (z.quality, z.leap)
 quality_again line codes quality z h =
     ap (time_quality_line line) h.quality_are
@@ -86,6 +93,7 @@ zone_size zone = option_map_or (λ z. 2) zone 0
 abbrev Found : List Text → (revision i : ℕ) → (k : ℕ) → Option Zone × Ahead → Type 0
 Found text revision i k y = HasZoneLines revision (fields_at text k) (fields_at text (k + 1)) y.0 × (y.1 ≡ place text (i + zone_size y.0))
 
+-- the two lines that were read
 both_found : (text : List Text) (revision i k : ℕ) (start : Ahead) (y : Option Zone × Ahead) → k ≡ i + 1 → revision ≡ 2013 → start ≡ place text i → zone_lines true start ≡ Ok y → Found text revision i k y
 both_found text revision i k start y n is s e =
     from_bind (on_line time_code_line start) _ y e (λ codes codes_is e. from_bind (on_line time_quality_line codes.1) _ y e (λ quality quality_is e.
@@ -95,11 +103,24 @@ both_found text revision i k start y n is s e =
     let q = quality_found (k + 1) (fields_at text (k + 1)) quality.0 second.0 in
     let m : k + 1 ≡ i + 2 = omega (arith, n) in
     subst (Found text revision i k) (same_ok e) (
-      (is, record {
-        time_code = c.time_code; local_code = c.local_code; codes_are = c.are; time_code_is = c.time_code_is; local_code_is = c.local_code_is;
-        tmq_code = q.tmq_code; leapsec = q.leapsec; quality_are = q.are; tmq_code_is = q.tmq_code_is; leapsec_is = q.leapsec_is; known = q.known;
-      }),
-      second.1 ∙ ap (place text) m)))
+      (
+        is,
+        record {
+          time_code = c.time_code;
+          local_code = c.local_code;
+          codes_are = c.are;
+          time_code_is = c.time_code_is;
+          local_code_is = c.local_code_is;
+          tmq_code = q.tmq_code;
+          leapsec = q.leapsec;
+          quality_are = q.are;
+          tmq_code_is = q.tmq_code_is;
+          leapsec_is = q.leapsec_is;
+          known = q.known;
+        },
+      ),
+      second.1 ∙ ap (place text) m,
+    )))
 
 -- the zone that was read: line k is the first of it
 pub zone_found : (text : List Text) (revision i k : ℕ) (start : Ahead) (y : Option Zone × Ahead) → k ≡ i + 1 → (revision ≡ 1999) ⊎ (revision ≡ 2013) → start ≡ place text i
