@@ -1,5 +1,5 @@
 -- What each kind of field holds: a field is read as a value exactly where it holds it.
-use Rattle.std.proofs.Common.{◌≡◌, ℕ, zero, suc, ◌+◌, ◌-◌, ◌*◌, ◌^◌, ◌≤◌, ◌⊎◌, inl, inr, Bool, true, false, cond, not, Option, Some, None, List, [], ◌∷◌, length, ℤ, pos, negsuc, Result, Ok, Err, refl, sym, subst, ap, ◌∙◌, arith, nat_le, ◌==◌, ◌||◌}
+use Rattle.std.proofs.Common.{◌≡◌, ℕ, ◌*◌, ◌^◌, ◌≤◌, ◌⊎◌, inl, inr, Bool, true, false, cond, not, Option, Some, None, ℤ, pos, negsuc, Result, Ok, refl, sym, subst, ap, ◌∙◌, nat_le, ◌==◌, ◌||◌}
 use Rattle.std.specs.Prelude.{option_map, IsTrue, IsSome}
 use Rattle.std.specs.Option.{ok_or}
 use Rattle.std.proofs.lemmas.Bool.{eqb-true, eq-eqb, leb-true, le-leb}
@@ -43,6 +43,7 @@ among n a b (inr h) = at (n == a) (eq-eqb n b h)
 
 -- ---- texts, numbers and decimals
 
+-- what is not true is false
 not_true : (b : Bool) → not b ≡ true → b ≡ false
 not_true true e = absurd cc
 not_true false e = refl
@@ -94,10 +95,12 @@ pub decimal_again : (line field : ℕ) (text : Text) (x : Scaled) → decimal_of
 unfolding decimal_field
 decimal_again line field text x h = ap (λ o. field_or_fault line field o) h
 
+-- what is a value is there
 is_there : {A : Type 0} (o : Option A) (x : A) → o ≡ Some x → IsSome o
 is_there (Some y) x e = refl
 is_there None x e = absurd cc
 
+-- what is there is a value
 what_is : {A : Type 0} (o : Option A) → IsSome o → (x : A) × (o ≡ Some x)
 what_is (Some x) h = (x, refl)
 what_is None h = absurd cc
@@ -136,6 +139,7 @@ unfolding channel_count
 count_again capital what line field text n h few =
     goes (field_or_fault line field (lettered capital text)) _ n (ap (λ o. field_or_fault line field o) h) ∙ ap (λ b. provided b (fault.Limit what line) n) (le-leb n 999 few)
 
+-- which microhertz give a line frequency
 frequency_from : (z : ℤ) (n : ℕ) → frequency_of z ≡ Some n → (z ≡ pos (n * 10 ^ 6)) × ((n ≡ 50) ⊎ (n ≡ 60))
 frequency_from (pos k) n e = at (k == 50000000) (k == 60000000) refl refl e
   where
@@ -153,6 +157,7 @@ frequency_found line field text n e =
     let f = frequency_from (shifted x 6) n (some_ok (frequency_of (shifted x 6)) _ n e) in
     (ap (λ o. option_map (λ x. shifted x 6) o) (decimal_found line field text x x_is) ∙ ap Some f.0, f.1))
 
+-- fifty and sixty hertz are line frequencies
 frequency_known : (n : ℕ) → (n ≡ 50) ⊎ (n ≡ 60) → frequency_of (pos (n * 10 ^ 6)) ≡ Some n
 frequency_known n (inl h) = subst (λ n. frequency_of (pos (n * 10 ^ 6)) ≡ Some n) (sym h) refl
 frequency_known n (inr h) = subst (λ n. frequency_of (pos (n * 10 ^ 6)) ≡ Some n) (sym h) refl
@@ -165,6 +170,7 @@ frequency_again line field text n h known =
     goes (decimal_field line field text) _ d.0 (decimal_again line field text d.0 d.1)
     ∙ ap (λ o. ok_or o (fault.Unsupported unsupported.Frequency line)) (ap frequency_of d.2 ∙ frequency_known n known)
 
+-- which microhertz give a rate
 rate_from : (lf : ℕ) (z : ℤ) (n : ℕ) → rate_of lf z ≡ Some n → (z ≡ pos n) × IsTrue (is_rate lf n)
 rate_from lf (pos k) n e = at (is_rate lf k) refl e
   where

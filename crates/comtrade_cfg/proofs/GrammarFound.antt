@@ -1,22 +1,18 @@
 -- What was read is in the grammar.
-use Rattle.std.proofs.Common.{◌≡◌, ℕ, zero, suc, ◌+◌, ◌*◌, ◌^◌, ◌≤◌, ◌⊎◌, Option, Some, None, List, [], ◌∷◌, length, ℤ, pos, Result, Ok, Err, refl, sym, subst, ap, ◌∙◌, arith}
-use Rattle.std.specs.Prelude.{slice_get, ◌==◌}
+use Rattle.std.proofs.Common.{◌≡◌, ℕ, ◌+◌, List, length, ℤ, Ok, refl, sym, subst, ap, ◌∙◌, arith}
 use Rattle.std.specs.Str.Lines.{lines}
 use Rattle.jiff_core.proofs.SignedLemmas.{signed_arith}
 use Rattle.pq_words.specs.Text.{Text}
 use Rattle.pq_time.specs.Moment.{utc_of, written_of}
-use Rattle.comtrade_cfg.specs.declared.cfg.Analogue.{Analogue}
-use Rattle.comtrade_cfg.specs.declared.cfg.StatusLine.{StatusLine}
-use Rattle.comtrade_cfg.specs.declared.cfg.Zone.{Zone}
 use Rattle.comtrade_cfg.specs.Configuration.{Configuration}
 use Rattle.comtrade_cfg.specs.Fields.{Ahead, ahead_of}
 use Rattle.comtrade_cfg.specs.CfgText.{configuration_of, station_line, counts_line, analogue_line, status_line, frequency_line, rates_line, sampling_line, stamp_line, file_type_line, timemult_line, offset_of}
-use Rattle.comtrade_cfg.specs.Grammar.{fields_at, after_channels, last_line, IsAnalogueLine, IsStatusLine, IsStampLine, HasZoneLines, LinesSay, IsCfgText}
+use Rattle.comtrade_cfg.specs.Grammar.{fields_at, after_channels, last_line, IsStampLine, HasZoneLines, LinesSay, IsCfgText}
 use Rattle.comtrade_cfg.proofs.ReadingSteps.{ReadSteps, steps_of_text, length-channel_lines}
 use Rattle.comtrade_cfg.proofs.ConfigurationBounds.{from_text}
-use Rattle.comtrade_cfg.proofs.GrammarPlaces.{place, line_found, Each, channels_found, blank_found}
+use Rattle.comtrade_cfg.proofs.GrammarPlaces.{place, line_found, channels_found, blank_found}
 use Rattle.comtrade_cfg.proofs.GrammarLines.{station_found, counts_found, analogue_found, status_found, frequency_line_found, rates_found, sampling_found, stamp_found, file_type_found, timemult_found}
-use Rattle.comtrade_cfg.proofs.GrammarZone.{zone_size, zone_found}
+use Rattle.comtrade_cfg.proofs.GrammarZone.{zone_found}
 
 -- the offset is taken away and added again
 written_again : (written minutes : ℤ) → written ≡ written_of (utc_of written minutes) minutes

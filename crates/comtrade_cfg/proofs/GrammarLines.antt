@@ -1,34 +1,31 @@
 -- What each line holds: a line is read as a value exactly where the grammar says that it holds it.
-use Rattle.std.proofs.Common.{◌≡◌, ℕ, zero, suc, ◌+◌, ◌-◌, ◌*◌, ◌^◌, ◌≤◌, ◌⊎◌, inl, inr, Bool, true, false, cond, Option, Some, None, List, [], ◌∷◌, length, ℤ, pos, Result, Ok, Err, refl, sym, subst, ap, ◌∙◌, arith, ◌==◌, ◌||◌}
-use Rattle.std.specs.Prelude.{codes, is_some, IsTrue, IsSome}
-use Rattle.std.specs.Option.{option_map_or}
+use Rattle.std.proofs.Common.{◌≡◌, ℕ, ◌+◌, ◌≤◌, ◌⊎◌, Bool, true, false, cond, Option, Some, None, List, [], ◌∷◌, ℤ, Ok, Err, refl, sym, subst, ap, ◌∙◌, ◌==◌, ◌||◌}
+use Rattle.std.specs.Prelude.{codes, is_some}
 use Rattle.std.specs.Str.{str_eq_ignore_ascii_case}
-use Rattle.std.proofs.lemmas.Bool.{eqb-true, eq-eqb, ne_eqb}
-use Rattle.pq_words.specs.Text.{Text, number}
-use Rattle.pq_words.specs.FirstFault.{◌>>=◌, provided}
-use Rattle.pq_words.proofs.ReadingLemmas.{provided_ok, some_ok}
+use Rattle.std.proofs.lemmas.Bool.{eqb-true}
+use Rattle.pq_words.specs.Text.{Text}
+use Rattle.pq_words.specs.FirstFault.{provided}
+use Rattle.pq_words.proofs.ReadingLemmas.{provided_ok}
 use Rattle.pq_base.specs.Decimal.{decimal_of}
-use Rattle.pq_time.specs.Written.{CivilDate, TimeOfDay, date_of, time_of, code_of}
+use Rattle.pq_time.specs.Written.{CivilDate, TimeOfDay, date_of, time_of}
 use Rattle.pq_time.specs.Moment.{moment_read, written_moment}
 use Rattle.comtrade_cfg.specs.declared.cfg.Analogue.{Analogue}
 use Rattle.comtrade_cfg.specs.declared.cfg.StatusLine.{StatusLine}
-use Rattle.comtrade_cfg.specs.declared.cfg.Zone.{Zone}
 use Rattle.comtrade_cfg.specs.declared.cfg.FileType.{FileType}
 use Rattle.comtrade_cfg.specs.declared.cfg.FileType.TheVariants.{Binary}
 use Rattle.comtrade_cfg.specs.declared.head.Station.{Station}
 use Rattle.comtrade_cfg.specs.declared.head.ChannelCounts.{ChannelCounts}
 use Rattle.comtrade_cfg.specs.declared.sampling.Sampling.{Sampling}
-use Rattle.comtrade_cfg.specs.declared.fault.CfgFault.{CfgFault}
 use Rattle.comtrade_cfg.specs.declared.fault.CfgFault.TheVariants as fault
 use Rattle.comtrade_cfg.specs.declared.fault.Quantity.TheVariants as quantity
 use Rattle.comtrade_cfg.specs.declared.fault.Unsupported.TheVariants as unsupported
 use Rattle.comtrade_cfg.specs.Configuration.{Configuration}
-use Rattle.comtrade_cfg.specs.Fields.{Ahead, on_line, field_or_fault, text_field, number_field, position_field, decimal_text, channel_count, frequency_field, rate_field, samples_field, moment_fields, hexadecimal, leap_field, local_code_of}
-use Rattle.comtrade_cfg.specs.CfgText.{station_line, station_fields, counts_line, analogue_line, analogue_fields, status_line, status_fields, frequency_line, rates_line, sampling_line, stamp_line, file_type_line, is_other_file_type, timemult_line, time_code_line, time_quality_line, zone_lines}
-use Rattle.comtrade_cfg.specs.Grammar.{fields_at, IsTextField, IsStationLine, IsCountsLine, IsAnalogueLine, IsStatusLine, IsFrequencyLine, IsRatesLine, IsSamplingLine, IsStampLine, IsFileTypeLine, IsTimemultLine, AreZoneLines, HasZoneLines}
+use Rattle.comtrade_cfg.specs.Fields.{text_field, number_field, position_field, decimal_text, channel_count, rate_field, samples_field, moment_fields}
+use Rattle.comtrade_cfg.specs.CfgText.{station_line, station_fields, counts_line, analogue_line, analogue_fields, status_line, status_fields, frequency_line, rates_line, sampling_line, stamp_line, file_type_line, is_other_file_type, timemult_line}
+use Rattle.comtrade_cfg.specs.Grammar.{IsTextField, IsStationLine, IsCountsLine, IsAnalogueLine, IsStatusLine, IsFrequencyLine, IsRatesLine, IsSamplingLine, IsStampLine, IsFileTypeLine, IsTimemultLine}
 use Rattle.comtrade_cfg.proofs.LinesRead.{from_bind, same_ok}
-use Rattle.comtrade_cfg.proofs.GrammarPlaces.{place, goes, line_found, line_again}
-use Rattle.comtrade_cfg.proofs.GrammarFields.{one_of, among, text_step, text_again, number_found, number_again, position_found, position_again, spelling_found, spelling_step, spelling_again, count_found, count_again, frequency_found, frequency_again, rate_found, rate_again, samples_found, samples_again, leap_found, leap_again}
+use Rattle.comtrade_cfg.proofs.GrammarPlaces.{goes}
+use Rattle.comtrade_cfg.proofs.GrammarFields.{one_of, among, text_step, text_again, number_found, number_again, position_found, position_again, spelling_found, spelling_step, spelling_again, count_found, count_again, frequency_found, frequency_again, rate_found, rate_again, samples_found, samples_again}
 
 -- ---- station and numbers of channels
 
@@ -36,6 +33,7 @@ use Rattle.comtrade_cfg.proofs.GrammarFields.{one_of, among, text_step, text_aga
 abbrev pub station_of : Configuration → Station
 station_of c = record { station = c.station; device = c.device; revision = c.revision }
 
+-- the fields of the station line that were read
 station_fields_found : (c : Configuration) (line : ℕ) (station device revision : Text) → station_fields line station device revision ≡ Ok (station_of c) → IsStationLine (station ∷ device ∷ revision ∷ []) c
 unfolding station_fields
 station_fields_found c line station device revision e =
@@ -105,6 +103,7 @@ counts_again line fields analogue status h =
 
 -- ---- channels
 
+-- the fields of an analogue channel line that were read
 analogue_fields_found : (position line : ℕ) (an id phase component unit a b skew min max primary secondary ps : Text) (ch : Analogue)
     → analogue_fields position line an id phase component unit a b skew min max primary secondary ps ≡ Ok ch
     → IsAnalogueLine position (an ∷ id ∷ phase ∷ component ∷ unit ∷ a ∷ b ∷ skew ∷ min ∷ max ∷ primary ∷ secondary ∷ ps ∷ []) ch
@@ -157,6 +156,7 @@ analogue_again position line fields ch h =
     ∙ goes (text_field line 12 ch.secondary) _ ch.secondary (text_again line 12 ch.secondary h.texts.1.1.1.1.1.1.1.1.0)
     ∙ goes (text_field line 13 ch.side) _ ch.side (text_again line 13 ch.side h.texts.1.1.1.1.1.1.1.1.1.0)
 
+-- the fields of a status channel line that were read
 status_fields_found : (position line : ℕ) (dn id phase component normal : Text) (ch : StatusLine) → status_fields position line dn id phase component normal ≡ Ok ch
     → IsStatusLine position (dn ∷ id ∷ phase ∷ component ∷ normal ∷ []) ch
 unfolding status_fields
@@ -236,6 +236,7 @@ sampling_again c line fields h =
 
 -- ---- moments, file type and factor
 
+-- the date and the time that were read
 stamp_fields_found : (line : ℕ) (date time : Text) (written : ℤ) (d : Option CivilDate) (t : Option TimeOfDay) → date_of date ≡ d → time_of time ≡ t
     → moment_fields line (moment_read d t) ≡ Ok written → IsStampLine (date ∷ time ∷ []) written
 stamp_fields_found line date time written None t d_is t_is e = absurd cc

@@ -147,6 +147,7 @@ behind_get (x ∷ xs) (suc i) j (suc k) n = behind_get xs i j k (omega (arith, n
 abbrev AreBlank : List Text → Type 0
 AreBlank lines = (k : ℕ) (line : Text) → slice_get lines k ≡ Some line → IsTrue (is_all_blank line)
 
+-- the lines that were read over are blank
 blank_in : (number : ℕ) (lines : List Text) (u : Unit {0}) → only_blank_lines number lines ≡ Ok u → AreBlank lines
 blank_in number [] u e = λ k line there. absurd cc
 blank_in number (l ∷ ls) u e = at (is_all_blank l) refl e (λ e. blank_in (number + 1) ls u e)
@@ -163,6 +164,7 @@ blank_found text i a u s e k line le there =
     let read : only_blank_lines (i + 1) (drop i text) ≡ Ok u = ap (λ (a : Ahead). only_blank_lines a.number a.lines) (sym s) ∙ e in
     blank_in (i + 1) (drop i text) u read (k - i) line (behind_get text i (k - i) k (omega (arith, le)) ∙ there)
 
+-- blank lines are read over
 blank_out : (number : ℕ) (lines : List Text) → AreBlank lines → only_blank_lines number lines ≡ Ok tt
 blank_out number [] h = refl
 blank_out number (l ∷ ls) h =

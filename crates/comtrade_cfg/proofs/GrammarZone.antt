@@ -1,13 +1,11 @@
 -- The lines of the zone: revision 2013 has two of them, and 1999 has none.
-use Rattle.std.proofs.Common.{◌≡◌, ℕ, zero, suc, ◌+◌, ◌⊎◌, inl, inr, Bool, true, false, Option, Some, None, List, [], ◌∷◌, ℤ, Result, Ok, Err, refl, sym, subst, ap, ◌∙◌, arith, ◌==◌}
+use Rattle.std.proofs.Common.{◌≡◌, ℕ, ◌+◌, ◌⊎◌, inl, inr, true, false, Option, Some, None, List, [], ◌∷◌, ℤ, Ok, refl, sym, subst, ap, ◌∙◌, arith, ◌==◌}
 use Rattle.std.specs.Option.{option_map_or}
-use Rattle.std.proofs.lemmas.Bool.{eqb-true, eq-eqb, ne_eqb}
+use Rattle.std.proofs.lemmas.Bool.{eq-eqb, ne_eqb}
 use Rattle.pq_words.specs.Text.{Text}
-use Rattle.pq_words.specs.FirstFault.{◌>>=◌}
 use Rattle.pq_words.proofs.ReadingLemmas.{some_ok}
 use Rattle.pq_time.specs.Written.{code_of}
 use Rattle.comtrade_cfg.specs.declared.cfg.Zone.{Zone}
-use Rattle.comtrade_cfg.specs.declared.fault.CfgFault.{CfgFault}
 use Rattle.comtrade_cfg.specs.declared.fault.CfgFault.TheVariants as fault
 use Rattle.comtrade_cfg.specs.Fields.{Ahead, on_line, field_or_fault, hexadecimal, leap_digit, leap_field, local_code_of}
 use Rattle.comtrade_cfg.specs.CfgText.{time_code_line, time_quality_line, zone_lines}
@@ -26,6 +24,7 @@ record HoldsCodes (fields : List Text) (x : ℤ × Option ℤ) : Type 0 where
   pub time_code_is : code_of time_code ≡ Some x.0
   pub local_code_is : local_code_of local_code ≡ Some x.1
 
+-- the time code line that was read
 codes_found : (line : ℕ) (fields : List Text) (x : ℤ × Option ℤ) → time_code_line line fields ≡ Ok x → HoldsCodes fields x
 codes_found line [] x e = absurd cc
 codes_found line (a ∷ []) x e = absurd cc
@@ -51,6 +50,7 @@ record HoldsQuality (fields : List Text) (x : ℕ × ℕ) : Type 0 where
   pub leapsec_is : leap_digit leapsec ≡ Some x.1
   pub known : (x.1 ≡ 0) ⊎ (x.1 ≡ 3)
 
+-- the time quality line that was read
 quality_found : (line : ℕ) (fields : List Text) (x : ℕ × ℕ) → time_quality_line line fields ≡ Ok x → HoldsQuality fields x
 quality_found line [] x e = absurd cc
 quality_found line (a ∷ []) x e = absurd cc
@@ -69,12 +69,14 @@ quality_found line (tmq_code ∷ leapsec ∷ []) x e =
     }))
 quality_found line (a ∷ b ∷ c ∷ more) x e = absurd cc
 
+-- a time code line is read
 codes_again : (line : ℕ) (codes quality : List Text) (z : Zone) → AreZoneLines codes quality z → time_code_line line codes ≡ Ok (z.time_code, z.local_code)
 codes_again line codes quality z h =
     ap (time_code_line line) h.codes_are
     ∙ goes (field_or_fault line 1 (code_of h.time_code)) _ z.time_code (ap (λ o. field_or_fault line 1 o) h.time_code_is)
     ∙ goes (field_or_fault line 2 (local_code_of h.local_code)) _ z.local_code (ap (λ o. field_or_fault line 2 o) h.local_code_is)
 
+-- a time quality line is read
 quality_again : (line : ℕ) (codes quality : List Text) (z : Zone) → AreZoneLines codes quality z → time_quality_line line quality ≡ Ok (z.quality, z.leap)
 quality_again line codes quality z h =
     ap (time_quality_line line) h.quality_are
@@ -91,6 +93,7 @@ zone_size zone = option_map_or (λ z. 2) zone 0
 abbrev Found : List Text → (revision i : ℕ) → (k : ℕ) → Option Zone × Ahead → Type 0
 Found text revision i k y = HasZoneLines revision (fields_at text k) (fields_at text (k + 1)) y.0 × (y.1 ≡ place text (i + zone_size y.0))
 
+-- the two lines that were read
 both_found : (text : List Text) (revision i k : ℕ) (start : Ahead) (y : Option Zone × Ahead) → k ≡ i + 1 → revision ≡ 2013 → start ≡ place text i → zone_lines true start ≡ Ok y → Found text revision i k y
 both_found text revision i k start y n is s e =
     from_bind (on_line time_code_line start) _ y e (λ codes codes_is e. from_bind (on_line time_quality_line codes.1) _ y e (λ quality quality_is e.
