@@ -1,5 +1,5 @@
 -- The two laws of reading: what is read is in the grammar, and nothing in it is refused.
-use Rattle.std.proofs.Common.{◌≡◌, ◌⊎◌, inl, inr, sym, ◌∙◌, Result, Ok, Err, IfOk, IfErr}
+use Rattle.std.proofs.Common.{◌≡◌, inl, inr, sym, ◌∙◌, Result, Ok, Err, IfOk, IfErr}
 use Rattle.comtrade_cfg.specs.Configuration.{Configuration, view}
 use Rattle.comtrade_cfg.specs.CfgText.{GivesCfg, configuration_of}
 use Rattle.comtrade_cfg.specs.Grammar.{IsCfgText, ReadsTheGrammar}

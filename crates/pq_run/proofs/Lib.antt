@@ -1,6 +1,5 @@
 pub mod CourseLemmas
 pub mod CutLemmas
-pub mod NumberLemmas
 pub mod SampleLemmas
 pub mod StageLemmas
 mod StandardFacts

@@ -12,7 +12,7 @@ use Rattle.std.specs.Str.{bytes_eq}
 use Rattle.std.specs.Str.Parse.{digits_value}
 use Rattle.pq_run.specs.StrictCfg.{strict_front, strict_back, strict_cfg, strict_count, most_strict}
 use Rattle.pq_words.proofs.FirstLaws.{first_between_only}
-use Rattle.pq_words.specs.Text.{Text, digits_between}
+use Rattle.pq_words.specs.Text.{Text, number}
 
 digits_model : IsNumeralModel (λ ds. list_all is_ascii_digit ds ≡ true) (digits_value 10)
 digits_model = numerals_by_value _ (search rules)
@@ -22,16 +22,16 @@ chosen : (a b c : Bool) (value n : ℕ) → a ≡ true → b ≡ true → c ≡ 
 chosen a b c value n ha hb hc e = rw (ha, hb, hc, e)
 
 -- what a number up to 718,800 is written as is read back
-pub read_back : (n : ℕ) → n ≤ 718800 → digits_between 1 6 (decimal n) ≡ Some n
+pub read_back : (n : ℕ) → n ≤ 718800 → number (decimal n) ≡ Some n
 read_back n small =
     let fits : n < 2 ^ 64 = omega (arith, small) in
     let some : nat_le 1 (length (decimal n)) ≡ true = grind (arith, decimal_nonempty n fits) in
-    let few : nat_le (length (decimal n)) 6 ≡ true = grind (arith, length-decimal-le 6 n (omega arith) (omega (arith, small)) fits) in
+    let few : nat_le (length (decimal n)) 10 ≡ true = grind (arith, length-decimal-le 10 n (omega arith) (omega (arith, small)) fits) in
     chosen _ _ _ _ n some few (digits_decimal digits_model n fits) (digits_value-decimal digits_model n fits)
 
 -- the digits that write a number are read as that number alone
-pub read_as : (written : Text) (n : ℕ) (read : Option ℕ) → n ≤ 718800 → written ≡ decimal n → read ≡ digits_between 1 6 written → read ≡ Some n
-read_as written n read small is e = e ∙ (ap (digits_between 1 6) is ∙ read_back n small)
+pub read_as : (written : Text) (n : ℕ) (read : Option ℕ) → n ≤ 718800 → written ≡ decimal n → read ≡ number written → read ≡ Some n
+read_as written n read small is e = e ∙ (ap (number) is ∙ read_back n small)
 
 -- the number of samples is written in one place
 pub one_count : (k n : ℕ) → k ≤ 718800 → n ≤ 718800 → strict_cfg k ≡ strict_cfg n → k ≡ n

@@ -5,7 +5,6 @@ pub use status::{DatFault, Status, fault_text};
 pub use top_call::still;
 
 mod dat;
-mod number;
 mod report;
 mod settings;
 mod status;

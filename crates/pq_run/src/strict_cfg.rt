@@ -2,8 +2,8 @@
 ghost use Rattle.std.specs.Prelude.{◌≡◌, ◌≢◌, ◌≤◌, ◌++◌, ◌↔◌, ℕ, List, IfSome, IfNone, IsTrue, MatchOption, decimal};
 ghost use Rattle.pq_run.specs.StrictCfg.{strict_count};
 
-use crate::number::digits;
 use itoa::Buffer;
+use pq_base::read_number;
 
 // Up to the number of samples.
 const FRONT: &[u8] =
@@ -47,7 +47,7 @@ fn written_count(written: &[u8]) -> Option<u64>
     ensures found { IfSome result (λ n. (n ≤ 718800) × (written.now ≡ decimal n)) }
     ensures none { IfNone result ((n : ℕ) → n ≤ 718800 → written.now ≢ decimal n) }
 {
-    match digits(written, 6) {
+    match read_number(written) {
         Some(count) => {
             if count > MOST_SAMPLES {
                 return None;

@@ -2,7 +2,7 @@
 ghost use Rattle.std.specs.Prelude.{◌≡◌, MatchOption, IfSome, None, Some, map, string_bytes};
 ghost use Rattle.pq_run.specs.Words.{IsVoltage, check_words, intervals_words, voltage_of};
 
-use crate::number::digits;
+use pq_base::read_number;
 
 /// What the words of `intervals` say: the declared voltage in millivolts, and the names of two files.
 #[derive(Clone, Copy)]
@@ -51,7 +51,7 @@ fn declared_voltage(text: &str) -> Option<u64>
     ensures value { result ≡ voltage_of text.now }
     ensures within { IfSome result IsVoltage }
 {
-    match digits(text.as_bytes(), 10) {
+    match read_number(text.as_bytes()) {
         Some(millivolts) if 1 <= millivolts && millivolts <= 1_000_000_000 => Some(millivolts),
         _ => None,
     }
