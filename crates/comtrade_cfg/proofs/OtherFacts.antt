@@ -1,5 +1,5 @@
 -- Canonical texts, the cfg with 32 states, and selections.
-use Rattle.std.proofs.Common.{◌≡◌, ℤ, List, [], ◌∷◌, ◌++◌, map, refl, pos, Some, None, Ok, Err}
+use Rattle.std.proofs.Common.{◌≡◌, ℤ, List, [], ◌∷◌, ◌++◌, map, refl, replicate, take, pos, Some, None, Ok, Err}
 use Rattle.std.specs.Prelude.{codes, option_map, decimal}
 use Rattle.std.specs.List.{flat_map, range_with_len}
 use Rattle.std.specs.Fmt.{digits}
@@ -14,7 +14,7 @@ use Rattle.comtrade_cfg.specs.declared.selection.SelectFault.TheVariants as faul
 use Rattle.comtrade_cfg.specs.Fields.{text_field, number_field, position_field, decimal_text, decimal_field, channel_count, frequency_field, rate_field, samples_field, leap_field}
 use Rattle.comtrade_cfg.specs.CfgText.{configuration_of, configuration_ahead, channel_lines, station_fields, analogue_fields, status_fields}
 use Rattle.comtrade_cfg.specs.Canonical.{canonical_text}
-use Rattle.comtrade_cfg.specs.Selecting.{selected_of}
+use Rattle.comtrade_cfg.specs.Selecting.{coefficients_of, selected_of}
 use Rattle.comtrade_cfg.proofs.TwoIntervalsCfg.{demo, demo_lines, demo_with}
 
 abbrev with_cr_lf : List Text → Text
@@ -62,6 +62,11 @@ pub selections_2013 : option_map (λ c. selected_of c None None ∷ selected_of 
     ∷ Err (fault.Channel 1) ∷ Err (fault.Channel 4) ∷ Err (fault.Channel 0) ∷ [])
 unfolding digits selected_of text_field number_field position_field decimal_text decimal_field channel_count frequency_field rate_field samples_field leap_field station_fields analogue_fields status_fields configuration_of configuration_ahead channel_lines decimal_of written_moment date_of time_of code_of minutes_of days_from_civil day_count days_of_years days_of_months
 selections_2013 = refl
+
+-- they have 15,258,790,000 picovolts a count, and none beside
+pub coefficients_2013 : option_map (λ c. map coefficients_of (take 4 c.analogue)) (result_ok (configuration_of cfg_32)) ≡ Some (replicate 4 (record { a = pos 15_258_790_000; b = pos 0 }))
+unfolding digits text_field number_field position_field decimal_text decimal_field channel_count frequency_field rate_field samples_field leap_field station_fields analogue_fields status_fields configuration_of configuration_ahead channel_lines decimal_of written_moment date_of time_of code_of minutes_of days_from_civil day_count days_of_years days_of_months
+coefficients_2013 = refl
 
 abbrev demo_of : Text → Text
 demo_of a = demo_with 3 (codes "1,UA,A,,V," ++ a ++ codes ",0,0,-32767,32767,1,1,P")
