@@ -7,6 +7,7 @@ use Rattle.pq_words.specs.Text.{Text}
 use Rattle.pq_words.specs.FirstFault.{◌>>=◌, provided, GivesUnless}
 use Rattle.pq_base.specs.Decimal.{decimal_of, shifted}
 use Rattle.comtrade_cfg.specs.declared.cfg.Analogue.{Analogue}
+use Rattle.comtrade_cfg.specs.declared.voltage.Coefficients.{Coefficients}
 use Rattle.comtrade_cfg.specs.declared.selection.Selection.{Selection}
 use Rattle.comtrade_cfg.specs.declared.selection.SelectFault.{SelectFault}
 use Rattle.comtrade_cfg.specs.declared.selection.SelectFault.TheVariants as fault
@@ -22,12 +23,7 @@ unit_power unit =
 abbrev pub picovolts : ℕ → Text → ℤ
 picovolts power text = option_map_or (λ x. shifted x power) (decimal_of text) (pos 0)
 
--- the two coefficients of a channel in whole picovolts: the count x stands for a * x + b
-pub record Coefficients : Type 0 where
-  pub a : ℤ
-  pub b : ℤ
-
--- the coefficients of a channel in V or kV
+-- the coefficients of a channel in V or kV, in whole picovolts: the count x stands for a * x + b
 abbrev pub coefficients_of : Analogue → Coefficients
 coefficients_of c =
     let power = unwrap_or (unit_power c.unit) 0 in

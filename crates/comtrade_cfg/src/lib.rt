@@ -7,6 +7,7 @@ pub use fault::{CfgFault, Quantity, Unsupported};
 pub use print::print_cfg;
 pub use reading::read_cfg;
 pub use selection::{SelectFault, Selection};
+pub use voltage::Coefficients;
 
 mod blank;
 mod cfg;

@@ -1,6 +1,6 @@
 // Channels of voltage, and how great their samples may be.
-ghost use Rattle.std.specs.Prelude.{◌≡◌, ◌≤◌, ◌^◌, None, Some, if◌then◌else◌, nat_le, unsigned_abs, IfSome, is_some};
-ghost use Rattle.comtrade_cfg.specs.Selecting.{unit_power, picovolts, is_within_value_limit, is_voltage_channel};
+ghost use Rattle.std.specs.Prelude.{◌≡◌, ◌≤◌, ◌^◌, ◌+◌, ◌*◌, None, Some, if◌then◌else◌, nat_le, unsigned_abs, IfSome, is_some};
+ghost use Rattle.comtrade_cfg.specs.Selecting.{unit_power, picovolts, coefficients_of, is_within_value_limit, is_voltage_channel};
 
 use crate::cfg::Analogue;
 use crate::field::is_word;
@@ -22,31 +22,48 @@ pub(crate) fn unit_power(unit: &[u8]) -> Option<u32>
     None
 }
 
-// The magnitude of a coefficient in picovolts, where it is within the limit by itself.
+/// The coefficients of a channel in whole picovolts: the count x stands for `a * x + b`.
+#[derive(Clone, Copy, Debug, PartialEq, Eq)]
+pub struct Coefficients {
+    pub a: i128,
+    pub b: i128,
+}
+
+// A coefficient in whole picovolts, where it is within the limit by itself.
 #[tactic(auto, using(crate::proofs::ValueLemmas::sign_abs))]
-fn magnitude(power: u32, text: &[u8]) -> Option<u128>
+fn coefficient(power: u32, text: &[u8]) -> Option<i128>
     requires { power ≤ 15 }
-    ensures value { result ≡ (if nat_le (unsigned_abs (picovolts power text.now)) (10 ^ 19) then Some (unsigned_abs (picovolts power text.now)) else None) }
-    ensures within { IfSome result (λ n. n ≤ 10 ^ 19) }
+    ensures value { result ≡ (if nat_le (unsigned_abs (picovolts power text.now)) (10 ^ 19) then Some (picovolts power text.now) else None) }
+    ensures within { IfSome result (λ x. unsigned_abs x ≤ 10 ^ 19) }
 {
     let Some(value) = read_decimal(text) else {
         return Some(0);
     };
-    Some(value.round(power, MOST_PICOVOLTS)?.unsigned_abs())
+    value.round(power, MOST_PICOVOLTS)
+}
+
+impl Analogue {
+    /// The coefficients of a channel in V or kV, each rounded half away from zero to whole picovolts;
+    /// None where `32767 * abs(a) + abs(b)` is above 10^19, so that a count may make a sample past the limit.
+    pub fn coefficients(&self) -> Option<Coefficients>
+        ensures value { result ≡ (if is_within_value_limit self.now then Some (coefficients_of self.now) else None) }
+        ensures within { IfSome result (λ k. unsigned_abs k.a * 32767 + unsigned_abs k.b ≤ 10 ^ 19) }
+    {
+        let power = unit_power(self.unit.bytes()).unwrap_or(0);
+        let a = coefficient(power, self.a.bytes())?;
+        let b = coefficient(power, self.b.bytes())?;
+        if a.unsigned_abs() * 32767 + b.unsigned_abs() > MOST_PICOVOLTS {
+            return None;
+        }
+        Some(Coefficients { a, b })
+    }
 }
 
 // Whether no count makes a sample past the limit.
 pub(crate) fn is_within_value_limit(channel: &Analogue) -> bool
     ensures { result ≡ is_within_value_limit channel.now }
 {
-    let power = unit_power(channel.unit.bytes()).unwrap_or(0);
-    match (
-        magnitude(power, channel.a.bytes()),
-        magnitude(power, channel.b.bytes()),
-    ) {
-        (Some(a), Some(b)) => a * 32767 + b <= MOST_PICOVOLTS,
-        _ => false,
-    }
+    channel.coefficients().is_some()
 }
 
 // Whether the channel of this number, from 1, is there and in V or kV.

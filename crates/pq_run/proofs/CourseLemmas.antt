@@ -46,6 +46,7 @@ explained_after name go found call status.Usage here e = (of_rest call.files nam
 explained_after name go found call (status.CfgFault l f) here e = (of_rest call.files name go found _ here e.0, e.1)
 explained_after name go found call (status.Unsupported w l) here e = (of_rest call.files name go found _ here e.0, e.1)
 explained_after name go found call (status.Limit w l) here e = (of_rest call.files name go found _ here e.0, e.1)
+explained_after name go found call (status.Selection n) here e = (of_rest call.files name go found _ here e.0, e.1)
 explained_after name go found call (status.DatFault k) here e = (of_rest call.files name go found _ here e.0, e.1)
 explained_after name go found call (status.NoFile f) here e = (of_rest call.files name go found _ here e.0, e.1)
 

@@ -1,6 +1,5 @@
 pub mod CourseLemmas
-pub mod CutLemmas
 pub mod SampleLemmas
 pub mod StageLemmas
-mod StandardFacts
-pub mod StrictCfgLemmas
+pub mod SelectionLemmas
+pub mod RecordingLemmas

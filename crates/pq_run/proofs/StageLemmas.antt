@@ -8,7 +8,6 @@ use Rattle.std.specs.Option.{IfSome}
 use Rattle.std.specs.Prelude.{nat_le}
 use Rattle.pq_base.specs.Causes.{Rose}
 use Rattle.pq_base.specs.Outside.{Files, Holds}
-use Rattle.pq_run.specs.DatRecord.{dat_fault_of, record_bytes}
 use Rattle.pq_run.specs.TopCall.{Call, HasTaken, HasTakenFront, HasTakenNothing, IsComplete, IsExplained, IsOutOfMemory, IsTopCall, OfOutcome, OfVerdict}
 use Rattle.pq_run.specs.Verdict.{Asks, Course, Job, Outcome, Refused, verdict, with_file}
 use Rattle.pq_run.specs.declared.status.Status.{Status}
@@ -35,6 +34,7 @@ explained_from course call status.Usage reads order e = e
 explained_from course call (status.CfgFault l f) reads order e = e
 explained_from course call (status.Unsupported w l) reads order e = e
 explained_from course call (status.Limit w l) reads order e = e
+explained_from course call (status.Selection n) reads order e = e
 explained_from course call (status.DatFault k) reads order e = e
 explained_from course call (status.NoFile f) reads order e = e
 
@@ -74,22 +74,7 @@ of_any_outcome call (Some (Refused why)) same = same
 pub memory_explained : (course : Course Status) (call : Call) → call.taken_after ≡ call.taken_before → IsTopCall course call status.OutOfMemory
 memory_explained course call same = record { explained = of_any_outcome call (verdict course call.files) same; complete = λ no_read no_write. inl refl }
 
--- ---- a good dat
-
-no_short : (a b : ℕ) → nat_lt a b ≡ false → b ≤ a
-no_short a b fails = grind (arith, nat_tests)
-
-tests_fail : {X : Type 0} (a b : Bool) (x y : X) → cond a (Some x) (cond b (Some y) None) ≡ None → (a ≡ false) × (b ≡ false)
-tests_fail true b x y e = absurd cc
-tests_fail false true x y e = absurd cc
-tests_fail false false x y e = (refl, refl)
-
--- a dat without a fault has exactly the bytes of its records
-pub whole_dat : (n : ℕ) (dat : Text) → dat_fault_of n dat ≡ None → length dat ≡ record_bytes * n
-unfolding dat_fault_of
-whole_dat n dat good =
-    let fails = tests_fail (nat_lt (length dat) (10 * n)) (nat_lt (10 * n) (length dat)) _ _ good in
-    omega (arith, no_short (length dat) (10 * n) fails.0, no_short (10 * n) (length dat) fails.1)
+-- ---- a later call
 
 -- a part that begins with the shelf as an earlier read left it
 pub top_call_later : (course : Course Status) (files later_files : Option Files) (asked : Option Text) (before later after : ℕ) (taken_before taken_after : Option Text) (writes_before writes_after : ℕ) (s : Status)

@@ -1,11 +1,11 @@
+pub mod BinaryRecord
 pub mod Check
 pub mod Commands
-pub mod DatRecord
 pub mod Intervals
 pub mod ReportText
+pub mod Samples
 pub mod Settings
 pub mod StatusText
-pub mod StrictCfg
 pub mod TopCall
 pub mod Verdict
 pub mod Words

@@ -1,12 +1,18 @@
 -- The subject: the text of the report. All of it is profile.
-use Rattle.std.specs.Prelude.{ℕ, Bool, true, false, ◌++◌, List, codes, decimal}
+use Rattle.std.specs.Prelude.{ℕ, Bool, true, false, [], ◌++◌, List, ℤ, Option, Some, None, codes, decimal}
 use Rattle.std.specs.List.{flat_map}
+use Rattle.std.specs.Option.{option_map_or}
 use Rattle.event_detect.specs.declared.limits.Limits.{Limits}
 use Rattle.pq_base.specs.Recorded.{Recorded}
 use Rattle.pq_items.specs.ItemOrder.{details_of, item_end, key_of}
 use Rattle.pq_items.specs.declared.item.Item.{Item}
 use Rattle.pq_items.specs.declared.item.Item.TheVariants as item
+use Rattle.pq_sequence.specs.MeasuredRecording.{clock_of}
 use Rattle.pq_sequence.specs.SequentialResult.{sequential}
+use Rattle.pq_time.specs.Printed.{printed_moment}
+use Rattle.pq_time.specs.Tick.{moment_of}
+use Rattle.pq_time.specs.Time.{time_of}
+use Rattle.pq_time.specs.declared.clock.Clock.{Clock}
 use Rattle.pq_words.specs.Text.{Text}
 
 -- the header line
@@ -54,23 +60,47 @@ mark_of (item.Dip channel start end value is_open) = open_word is_open
 mark_of (item.Swell channel start end value is_open) = open_word is_open
 mark_of (item.Interruption channel start end value is_open) = open_word is_open
 
--- the fields before the moments: kind, channel and span
+-- the first fields of a row: kind, channel and span
 abbrev pub span_fields : Text → ℕ → ℕ → ℕ → Text
-span_fields kind channel start end = kind ++ codes "," ++ decimal channel ++ codes "," ++ decimal start ++ codes "," ++ decimal end
+span_fields kind channel start end = kind ++ codes "," ++ decimal channel ++ codes "," ++ decimal start ++ codes "," ++ decimal end ++ codes ","
 
--- the fields after them: value, count and mark
+-- the last ones: value, count and mark
 abbrev pub value_fields : ℕ → ℕ → Text → Text
-value_fields value count mark = decimal value ++ codes "," ++ decimal count ++ codes "," ++ mark
+value_fields value count mark = decimal value ++ codes "," ++ decimal count ++ codes "," ++ mark ++ codes "\n"
 
--- the row of an item: from, to and tick are empty so far
-unfoldable pub item_row : Item → Text
-item_row i =
-    span_fields (kind_of i) (key_of i).channel (key_of i).start (item_end i) ++ codes ",,,," ++ value_fields (details_of i).value (count_of i) (mark_of i) ++ codes "\n"
+-- from, to: the moment at which the sample at a place is taken
+abbrev pub place_text : Clock → ℕ → Text
+place_text clock place = printed_moment (time_of clock place)
+
+-- the tick of a frequency reading, of a ten-minute or a two-hour record, a UTC second; the others have none
+abbrev pub tick_of : Item → Option ℤ
+tick_of (item.Frequency tick start end cycles microhertz flagged) = Some tick
+tick_of (item.Basic channel start end cycles value flagged) = None
+tick_of (item.Short channel start end value flagged) = None
+tick_of (item.Ten channel tick start end basics value flagged) = Some tick
+tick_of (item.TwoHour channel tick start end value flagged) = Some tick
+tick_of (item.Dip channel start end value is_open) = None
+tick_of (item.Swell channel start end value is_open) = None
+tick_of (item.Interruption channel start end value is_open) = None
+
+-- the moment of a tick; empty where there is none
+abbrev pub tick_text : Option ℤ → Text
+tick_text tick = option_map_or (λ second. printed_moment (moment_of second)) tick []
+
+-- the next ones: the moments from, to and tick
+abbrev pub moment_fields : Clock → ℕ → ℕ → Option ℤ → Text
+moment_fields clock start end tick = place_text clock start ++ codes "," ++ place_text clock end ++ codes "," ++ tick_text tick ++ codes ","
+
+-- the row of an item
+unfoldable pub item_row : Clock → Item → Text
+item_row clock i =
+    span_fields (kind_of i) (key_of i).channel (key_of i).start (item_end i)
+    ++ moment_fields clock (key_of i).start (item_end i) (tick_of i) ++ value_fields (details_of i).value (count_of i) (mark_of i)
 
 -- the header, and a row for each item
-abbrev pub rows_text : List Item → Text
-rows_text items = header ++ flat_map item_row items
+abbrev pub rows_text : Clock → List Item → Text
+rows_text clock items = header ++ flat_map (item_row clock) items
 
 -- the report of a recording under limits: its sequential result as rows
 unfoldable pub report_text : Recorded → Limits → Text
-report_text r limits = rows_text (sequential r limits)
+report_text r limits = rows_text (clock_of r) (sequential r limits)

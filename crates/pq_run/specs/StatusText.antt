@@ -1,7 +1,7 @@
 -- The subject: the exit code and the fault text of each status (profile).
 use Rattle.std.specs.Prelude.{ℕ, ◌==◌, if◌then◌else◌, [], ◌++◌, codes, decimal}
-use Rattle.pq_run.specs.declared.status.DatFault.{DatFault}
-use Rattle.pq_run.specs.declared.status.DatFault.TheVariants as dat_fault
+use Rattle.pq_run.specs.declared.dat_fault.DatFault.{DatFault}
+use Rattle.pq_run.specs.declared.dat_fault.DatFault.TheVariants as dat_fault
 use Rattle.comtrade_cfg.specs.declared.fault.Quantity.{Quantity}
 use Rattle.comtrade_cfg.specs.declared.fault.Quantity.TheVariants as quantity
 use Rattle.pq_run.specs.declared.status.Status.{Status}
@@ -17,6 +17,7 @@ code_of status.Usage = 1
 code_of (status.CfgFault line field) = 2
 code_of (status.Unsupported what line) = 3
 code_of (status.Limit what line) = 4
+code_of (status.Selection channel) = 5
 code_of (status.DatFault kind) = 7
 code_of (status.ReadFault faults) = 8
 code_of (status.WriteFault faults) = 9
@@ -57,7 +58,13 @@ limit_place line = if line == 0 then [] else codes "cfg line " ++ (decimal line 
 -- the fault of a dat
 abbrev pub dat_fault_text : DatFault → Text
 dat_fault_text (dat_fault.Short at) = codes "dat record " ++ (decimal at ++ codes ": cut off")
+dat_fault_text (dat_fault.Missing at channel) = codes "dat record " ++ (decimal at ++ (codes ": channel " ++ (decimal channel ++ codes " missing")))
 dat_fault_text (dat_fault.Long bytes) = codes "dat: " ++ (decimal bytes ++ codes " bytes after the last record")
+dat_fault_text dat_fault.OutOfMemory = codes "out of memory"
+
+-- channel 0 stands for none of them
+abbrev pub selection_text : ℕ → Text
+selection_text channel = if channel == 0 then codes "no voltage channel" else codes "channel " ++ decimal channel
 
 -- the sentence of a status, without a line end
 unfoldable pub sentence_of : Status → Text
@@ -66,6 +73,7 @@ sentence_of status.Usage = codes "usage: words not understood"
 sentence_of (status.CfgFault line field) = codes "cfg line " ++ (decimal line ++ field_text field)
 sentence_of (status.Unsupported what line) = codes "cfg line " ++ (decimal line ++ (codes ": unsupported " ++ unsupported_text what))
 sentence_of (status.Limit what line) = limit_place line ++ (codes "limit passed: " ++ quantity_text what)
+sentence_of (status.Selection channel) = codes "selection: " ++ selection_text channel
 sentence_of (status.DatFault kind) = dat_fault_text kind
 sentence_of (status.ReadFault faults) = codes "read failed (" ++ (decimal faults ++ codes ")")
 sentence_of (status.WriteFault faults) = codes "write failed (" ++ (decimal faults ++ codes ")")

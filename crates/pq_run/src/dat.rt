@@ -1,94 +1,132 @@
-// Binary data records of the strict cfg: ten bytes each, with the count of channel 1 in the last two.
-ghost use Rattle.std.specs.Prelude.{◌≡◌, ◌+◌, ◌*◌, ◌≤◌, ◌^◌, length, All, IfOk, pos};
-ghost use Rattle.pq_run.specs.DatRecord.{count_at, dat_fault_of, record_bytes, sample_at, samples_of, strict_coefficient, strict_recording};
+// The samples of the one channel of a binary dat: records of ten bytes, with its count in the last two.
+ghost use Rattle.std.specs.Prelude.{◌≡◌, ◌+◌, ◌*◌, ◌-◌, ◌^◌, ◌<◌, ◌≤◌, ◌≤ℤ◌, ◌+ℤ◌, ◌*ℤ◌, [], ◌∷◌, pos, length, nat_le, All, IfOk, IfSome, MatchOption, unsigned_abs};
+ghost use Rattle.pq_base.specs.Decimal.{rounded_quotient};
 ghost use Rattle.pq_base.specs.Sample.{sample_of};
+ghost use Rattle.pq_run.specs.BinaryRecord.{count_at, record_at};
+ghost use Rattle.pq_run.specs.Samples.{channel_samples, judged_dat, judged_record, judged_records, unless_fault};
+ghost use Rattle.pq_run.specs.declared.dat_fault.DatFault.TheVariants as fault;
+ghost use Rattle.pq_words.specs.FirstFault.{GivesUnless, provided};
 ghost use Rattle.pq_words.specs.Magnitude.{IsWithin};
 
-use crate::status::DatFault;
-use pq_base::Recording;
-use std::alloc::{AllocError, Global};
+use crate::dat_fault::DatFault;
+use comtrade_cfg::Coefficients;
+use std::alloc::Global;
 
-// The size of a record.
-const RECORD_BYTES: u64 = 10;
+const RECORD_BYTES: usize = 10;
 
-// 0.0325 V a count, in microvolts.
-const MICROVOLTS: i64 = 32_500;
+// The count that says that there is none.
+const MISSING_COUNT: i16 = -32_768;
 
-/// The first fault of a dat of `n` records; None where there is none.
-#[tactic(auto, unfolding(crate::specs::DatRecord::dat_fault_of))]
-pub fn fault(n: u64, dat: &[u8]) -> Option<DatFault>
-    requires { n ≤ 718800 }
-    ensures { result ≡ dat_fault_of n dat.now }
-{
-    let found = dat.len() as u64;
-    let wanted = RECORD_BYTES * n;
-    if found < wanted {
-        return Some(DatFault::Short {
-            at: found / RECORD_BYTES + 1,
-        });
-    }
-    if wanted < found {
-        return Some(DatFault::Long {
-            bytes: found - wanted,
-        });
-    }
-    None
-}
+const PICOVOLTS_IN_MICROVOLT: u64 = 1_000_000;
 
-/// The samples of `n` records, in microvolts.
-pub fn samples(alloc: Global, n: u64, dat: &[u8]) -> Result<Vec<i64>, AllocError>
-    requires whole { length dat.now ≡ record_bytes * n }
-    ensures value { IfOk result (λ samples. samples.items ≡ samples_of n dat.now) }
-    ensures count { IfOk result (λ samples. length samples.items ≡ n) }
+/// The samples of `n` records in microvolts, or the first fault of the dat.
+pub fn samples(
+    alloc: Global,
+    coefficients: &Coefficients,
+    n: u64,
+    dat: &[u8],
+) -> Result<Vec<i64>, DatFault>
+    requires limit { unsigned_abs coefficients.now.a * 32767 + unsigned_abs coefficients.now.b ≤ 10 ^ 19 }
+    requires few { n ≤ 50_000_000 }
+    ensures value { GivesUnless fault.OutOfMemory (λ samples. samples.items) result (unless_fault (judged_dat 10 (0 ∷ []) dat.now n) (channel_samples coefficients.now 10 0 dat.now n)) }
     ensures quiet { IfOk result (λ samples. All (IsWithin (10 ^ 13)) samples.items) }
 {
-    let mut samples = Vec::with_capacity(alloc, n as usize)?;
+    let samples = good_samples(alloc, coefficients, n, dat)?;
+    judge_end(n, dat)?;
+    Ok(samples)
+}
+
+// The samples of `n` records, or the fault of the first record at fault.
+fn good_samples(
+    alloc: Global,
+    coefficients: &Coefficients,
+    n: u64,
+    dat: &[u8],
+) -> Result<Vec<i64>, DatFault>
+    requires limit { unsigned_abs coefficients.now.a * 32767 + unsigned_abs coefficients.now.b ≤ 10 ^ 19 }
+    requires few { n ≤ 50_000_000 }
+    ensures value { GivesUnless fault.OutOfMemory (λ samples. samples.items) result (unless_fault (judged_records 10 (0 ∷ []) dat.now n) (channel_samples coefficients.now 10 0 dat.now n)) }
+    ensures quiet { IfOk result (λ samples. All (IsWithin (10 ^ 13)) samples.items) }
+{
+    let there = (dat.len() / RECORD_BYTES) as u64;
+    let mut samples = Vec::with_capacity(alloc, n.min(there) as usize)?;
     for position in 0..n {
-        samples.push(sample(dat, position as usize))?;
+        let count = count(position, dat)?;
+        samples.push(microvolts(coefficients, count))?;
     }
     Ok(samples)
 }
 
-// The sample of the record at a position.
-fn sample(dat: &[u8], position: usize) -> i64
-    requires { record_bytes * (position + 1) ≤ length dat.now }
-    ensures value { result ≡ sample_at dat.now position }
+// The count of the record at a position from 0, or its fault.
+fn count(position: u64, dat: &[u8]) -> Result<i16, DatFault>
+    requires few { position < 50_000_000 }
+    ensures value { result ≡ unless_fault (judged_record 10 (0 ∷ []) dat.now position) (count_at (record_at 10 dat.now position) 0) }
+    ensures within { IfOk result (IsWithin 32767) }
+{
+    let at = position + 1;
+    let Some(record) = record(position as usize, dat) else {
+        return Err(DatFault::Short { at });
+    };
+    let count = i16::from_le_bytes([record[8], record[9]]);
+    if count == MISSING_COUNT {
+        return Err(DatFault::Missing { at, channel: 1 });
+    }
+    Ok(count)
+}
+
+// The bytes of the record at a position from 0, where they are all there.
+fn record(position: usize, dat: &[u8]) -> Option<&[u8]>
+    requires few { position < 50_000_000 }
+    ensures value { MatchOption result (length dat.now < 10 * (position + 1)) (λ bytes. bytes.now ≡ record_at 10 dat.now position) }
+    ensures whole { IfSome result (λ bytes. length bytes.now ≡ 10) }
+    ensures there { IfSome result (λ bytes. 10 * (position + 1) ≤ length dat.now) }
+{
+    let start = RECORD_BYTES * position;
+    dat.get(start..start + RECORD_BYTES)
+}
+
+// The sample of a count, in whole microvolts.
+fn microvolts(coefficients: &Coefficients, count: i16) -> i64
+    requires limit { unsigned_abs coefficients.now.a * 32767 + unsigned_abs coefficients.now.b ≤ 10 ^ 19 }
+    requires within { IsWithin 32767 count }
+    ensures value { result ≡ sample_of coefficients.now.a coefficients.now.b count }
     ensures quiet { IsWithin (10 ^ 13) result }
 {
-    microvolts(count(dat, position))
+    let picovolts = picovolts(coefficients, count);
+    let size = rounded(picovolts.unsigned_abs() as u64);
+    if picovolts < 0 { -size } else { size }
 }
 
-// The count of the record at a position: its last two bytes.
-fn count(dat: &[u8], position: usize) -> i16
-    requires { record_bytes * (position + 1) ≤ length dat.now }
-    ensures { result ≡ count_at dat.now position }
+// The sample of a count, in whole picovolts.
+fn picovolts(coefficients: &Coefficients, count: i16) -> i128
+    requires limit { unsigned_abs coefficients.now.a * 32767 + unsigned_abs coefficients.now.b ≤ 10 ^ 19 }
+    requires within { IsWithin 32767 count }
+    ensures value { result ≡ (coefficients.now.a *ℤ count) +ℤ coefficients.now.b }
+    ensures within { unsigned_abs result ≤ 10 ^ 19 }
 {
-    let at = 10 * position + 8;
-    i16::from_le_bytes([dat[at], dat[at + 1]])
+    coefficients.a * i128::from(count) + coefficients.b
 }
 
-// 0.0325 V a count.
-fn microvolts(count: i16) -> i64
-    ensures value { result ≡ sample_of strict_coefficient (pos 0) count }
-    ensures quiet { IsWithin (10 ^ 13) result }
+// A magnitude in picovolts as whole microvolts, half rounded up.
+fn rounded(picovolts: u64) -> i64
+    requires { picovolts ≤ 10 ^ 19 }
+    ensures value { result ≡ pos (rounded_quotient picovolts (10 ^ 6)) }
+    ensures within { result ≤ℤ pos (10 ^ 13) }
 {
-    i64::from(count) * MICROVOLTS
+    ((picovolts + PICOVOLTS_IN_MICROVOLT / 2) / PICOVOLTS_IN_MICROVOLT) as i64
 }
 
-/// The recording of channel 1 alone that the strict cfg describes.
-pub fn recording(alloc: Global, samples: Vec<i64>) -> Result<Recording, AllocError>
-    requires short { length samples.items ≤ 718800 }
-    requires quiet { All (IsWithin (10 ^ 13)) samples.items }
-    ensures { IfOk result (λ recording. recording ≡ strict_recording samples.items) }
+// No byte is left after the last record.
+fn judge_end(n: u64, dat: &[u8]) -> Result<(), DatFault>
+    requires { n ≤ 50_000_000 }
+    ensures { result ≡ provided (nat_le (length dat.now) (10 * n)) (fault.Long (length dat.now - 10 * n)) tt }
 {
-    let numbers = vec![in alloc; 1u32]?;
-    let samples = vec![in alloc; samples]?;
-    Ok(Recording::new(
-        1_709_294_401_000_000_000,
-        1_200_000_000,
-        50,
-        numbers,
-        0,
-        samples,
-    ))
+    let found = dat.len() as u64;
+    let wanted = RECORD_BYTES as u64 * n;
+    if found > wanted {
+        return Err(DatFault::Long {
+            bytes: found - wanted,
+        });
+    }
+    Ok(())
 }

@@ -6,10 +6,10 @@ ghost use Rattle.pq_items.specs.ItemRange.{IsItemInRange};
 ghost use Rattle.pq_sequence.specs.BasicInterval.{AreBoundaries, IsRun, basic_runs, cycles_of};
 ghost use Rattle.pq_sequence.specs.MeasuredRecording.{clock_of, recorded_events as events_of_recording, recorded_rule, reference_cycles as cycles_of_recording, tick_places};
 ghost use Rattle.pq_sequence.specs.SequentialResult.{all_items as items_of_recording, event_item, item_of_kind, sequential};
-ghost use Rattle.pq_time.specs.Time.{IsClock};
 ghost use Rattle.zero_cross.specs.Boundary.{IsRule};
 
 use crate::basics::{basic_runs, push_basics};
+use crate::clock::clock_of;
 use crate::cycles::cycle_boundaries;
 use crate::events::all_events;
 use crate::fronts::all_fronts;
@@ -17,7 +17,6 @@ use crate::windows::all_windows;
 use event_detect::{Event, Kind, Limits};
 use pq_base::{OutOfMemory, Recording};
 use pq_items::{Item, sort_items};
-use pq_time::Clock;
 use std::alloc::{AllocError, Global};
 use ten_twelve::Span;
 use zero_cross::Rule;
@@ -104,17 +103,6 @@ fn recorded_runs(
 {
     let fronts = all_fronts(alloc, boundaries, &clock_of(recording), recording.len())?;
     basic_runs(alloc, &fronts, boundaries, recording.lf())
-}
-
-// When the samples are taken.
-fn clock_of(recording: &Recording) -> Clock
-    ensures value { result ≡ clock_of recording.now }
-    ensures clock { IsClock result }
-{
-    Clock {
-        t0: recording.t0(),
-        rate: recording.rate(),
-    }
 }
 
 // How far apart the recording's boundaries are.
