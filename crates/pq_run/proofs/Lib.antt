@@ -3,3 +3,5 @@ pub mod SampleLemmas
 pub mod StageLemmas
 pub mod SelectionLemmas
 pub mod RecordingLemmas
+mod StandardFacts
+mod VerdictFacts
