@@ -18,14 +18,15 @@ use Rattle.pq_time.proofs.DayLemmas.{written_day}
 use Rattle.comtrade_cfg.specs.declared.head.ChannelCounts.{ChannelCounts}
 use Rattle.comtrade_cfg.specs.declared.sampling.Sampling.{Sampling}
 use Rattle.comtrade_cfg.specs.declared.cfg.Zone.{Zone}
-use Rattle.comtrade_cfg.specs.declared.fault.CfgFault.TheVariants as fault
-use Rattle.comtrade_cfg.specs.declared.fault.Quantity.{Quantity}
-use Rattle.comtrade_cfg.specs.declared.fault.Quantity.TheVariants as quantity
+use Rattle.cfg_fields.specs.declared.fault.CfgFault.TheVariants as fault
+use Rattle.cfg_fields.specs.declared.fault.Quantity.{Quantity}
+use Rattle.cfg_fields.specs.declared.fault.Quantity.TheVariants as quantity
 use Rattle.comtrade_cfg.specs.Configuration.{Configuration}
-use Rattle.comtrade_cfg.specs.Fields.{Ahead, LineRule, ahead_of, on_line, channel_count, position_field, decimal_field, frequency_of, frequency_field, is_rate, rate_of, rate_field, samples_field, number_field, moment_fields, fields_of, local_code_of, leap_field, field_or_fault, lettered, hexadecimal}
+use Rattle.cfg_fields.specs.Fields.{Ahead, LineRule, ahead_of, on_line, channel_count, position_field, decimal_field, frequency_of, frequency_field, is_rate, rate_of, rate_field, samples_field, number_field, moment_fields, fields_of, local_code_of, leap_field, field_or_fault, lettered, hexadecimal}
 use Rattle.comtrade_cfg.specs.CfgText.{configuration_of, configuration_ahead, channel_lines, counts_line, frequency_line, sampling_line, stamp_line, zone_lines, time_code_line, time_quality_line, analogue_line, status_line, offset_of, IsConfiguration}
-use Rattle.comtrade_cfg.proofs.LinesRead.{LinesRead, lines_read, line_read, from_bind, same_ok}
-use Rattle.comtrade_cfg.proofs.WrittenFacts.{date_civil, IsClockTime, time_clock, code_small}
+use Rattle.comtrade_cfg.proofs.LinesRead.{LinesRead, lines_read}
+use Rattle.cfg_fields.proofs.ReadingLaws.{line_read, from_bind, same_ok}
+use Rattle.cfg_fields.proofs.WrittenFacts.{date_civil, IsClockTime, time_clock, code_small}
 
 -- ---- channels
 

@@ -5,7 +5,7 @@ use Rattle.jiff_core.proofs.SignedLemmas.{signed_arith}
 use Rattle.pq_words.specs.Text.{Text}
 use Rattle.pq_time.specs.Moment.{utc_of, written_of}
 use Rattle.comtrade_cfg.specs.Configuration.{Configuration}
-use Rattle.comtrade_cfg.specs.Fields.{Ahead, ahead_of}
+use Rattle.cfg_fields.specs.Fields.{Ahead, ahead_of}
 use Rattle.comtrade_cfg.specs.CfgText.{configuration_of, station_line, counts_line, analogue_line, status_line, frequency_line, rates_line, sampling_line, stamp_line, file_type_line, timemult_line, offset_of}
 use Rattle.comtrade_cfg.specs.Grammar.{fields_at, after_channels, last_line, IsStampLine, HasZoneLines, LinesSay, IsCfgText}
 use Rattle.comtrade_cfg.proofs.ReadingSteps.{ReadSteps, steps_of_text, length-channel_lines}

@@ -7,16 +7,17 @@ use Rattle.std.proofs.lemmas.Bool.{le-leb}
 use Rattle.jiff_core.proofs.SignedLemmas.{signed_arith}
 use Rattle.pq_words.specs.Text.{Text}
 use Rattle.pq_time.specs.Moment.{utc_of, written_of}
-use Rattle.comtrade_cfg.specs.declared.fault.CfgFault.TheVariants as fault
-use Rattle.comtrade_cfg.specs.declared.fault.Quantity.TheVariants as quantity
+use Rattle.cfg_fields.specs.declared.fault.CfgFault.TheVariants as fault
+use Rattle.cfg_fields.specs.declared.fault.Quantity.TheVariants as quantity
 use Rattle.comtrade_cfg.specs.Configuration.{Configuration}
-use Rattle.comtrade_cfg.specs.Fields.{Ahead, ahead_of, on_line, only_blank_lines}
+use Rattle.cfg_fields.specs.Fields.{Ahead, ahead_of, on_line, only_blank_lines}
 use Rattle.comtrade_cfg.specs.CfgText.{configuration_of, configuration_ahead, channel_lines, station_line, counts_line, analogue_line, status_line, frequency_line, rates_line, sampling_line, stamp_line, file_type_line, timemult_line, zone_lines, offset_of}
 use Rattle.comtrade_cfg.specs.Canonical.{row_of, rate_text, stamp_text, date_text, time_text, file_type_text, analogue_fields, status_fields, numbered_rows, zone_rows, canonical_lines, canonical_text, ReadsBack}
 use Rattle.comtrade_cfg.specs.CanonicalParts.{lines_text}
 use Rattle.pq_time.specs.Printed.{date_shown, time_shown}
 use Rattle.comtrade_cfg.proofs.LinesRead.{LinesRead}
-use Rattle.comtrade_cfg.proofs.ReadBackText.{IsFree, lines_back, row_free}
+use Rattle.comtrade_cfg.proofs.ReadBackText.{lines_back, row_free}
+use Rattle.cfg_fields.proofs.FieldTexts.{IsFree}
 use Rattle.comtrade_cfg.proofs.ReadBackFacts.{IsGood, configuration_good, IsGoodAnalogue, IsGoodStatus}
 use Rattle.comtrade_cfg.proofs.ReadBackLines.{then_ok, small_frequency, decimal_field_of, station_is_fields, station_back, counts_are_fields, counts_back, channels_back, channels_free, analogue_are_fields, analogue_value, status_are_fields, status_value, frequency_back, rates_back, sampling_are_fields, sampling_back, stamp_are_fields, stamp_back, file_type_is_field, file_type_back, timemult_back, zone_back, zone_free}
 

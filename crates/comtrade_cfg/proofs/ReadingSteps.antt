@@ -7,16 +7,16 @@ use Rattle.pq_words.specs.FirstFault.{◌>>=◌}
 use Rattle.pq_words.proofs.ReadingLemmas.{bind_ok, provided_ok}
 use Rattle.pq_time.specs.Moment.{utc_of}
 use Rattle.comtrade_cfg.specs.Configuration.{Configuration}
-use Rattle.comtrade_cfg.specs.Fields.{Ahead, LineRule, ahead_of, fields_of, on_line, next_line, only_blank_lines, field_or_fault, lettered, channel_count, position_field}
+use Rattle.cfg_fields.specs.Fields.{Ahead, LineRule, ahead_of, fields_of, on_line, next_line, only_blank_lines, field_or_fault, lettered, channel_count, position_field}
 use Rattle.comtrade_cfg.specs.CfgText.{IsConfiguration, IsCfgOf, configuration_of, configuration_ahead, offset_of, station_line, counts_line, analogue_line, status_line, channel_lines, frequency_line, rates_line, sampling_line, stamp_line, file_type_line, timemult_line, zone_lines}
 use Rattle.comtrade_cfg.specs.declared.cfg.Analogue.{Analogue}
 use Rattle.comtrade_cfg.specs.declared.cfg.StatusLine.{StatusLine}
 use Rattle.comtrade_cfg.specs.declared.cfg.Zone.{Zone}
 use Rattle.comtrade_cfg.specs.declared.cfg.FileType.{FileType}
-use Rattle.comtrade_cfg.specs.declared.fault.CfgFault.{CfgFault}
-use Rattle.comtrade_cfg.specs.declared.fault.CfgFault.TheVariants as fault
-use Rattle.comtrade_cfg.specs.declared.fault.Quantity.{Quantity}
-use Rattle.comtrade_cfg.specs.declared.fault.Quantity.TheVariants as quantity
+use Rattle.cfg_fields.specs.declared.fault.CfgFault.{CfgFault}
+use Rattle.cfg_fields.specs.declared.fault.CfgFault.TheVariants as fault
+use Rattle.cfg_fields.specs.declared.fault.Quantity.{Quantity}
+use Rattle.cfg_fields.specs.declared.fault.Quantity.TheVariants as quantity
 use Rattle.comtrade_cfg.specs.declared.head.Station.{Station}
 use Rattle.comtrade_cfg.specs.declared.head.ChannelCounts.{ChannelCounts}
 use Rattle.comtrade_cfg.specs.declared.sampling.Sampling.{Sampling}

@@ -14,7 +14,7 @@ use Rattle.pq_run.proofs.StrictCfgLemmas.{strict_none}
 use Rattle.pq_run.specs.DatRecord.{count_at, dat_fault_of, samples_of, strict_recording}
 use Rattle.pq_run.specs.Commands.{still_course}
 use Rattle.comtrade_cfg.specs.CfgText.{configuration_ahead, configuration_of, station_fields}
-use Rattle.comtrade_cfg.specs.Fields.{number_field, text_field}
+use Rattle.cfg_fields.specs.Fields.{number_field, text_field}
 use Rattle.pq_run.specs.ReportText.{header, item_row, report_text, rows_text}
 use Rattle.pq_run.specs.Settings.{usual_limits}
 use Rattle.pq_run.specs.StatusText.{code_of, sentence_of}
@@ -22,9 +22,9 @@ use Rattle.pq_run.specs.StrictCfg.{strict_back, strict_cfg, strict_count, strict
 use Rattle.pq_run.specs.Verdict.{Job, Refused, verdict}
 use Rattle.pq_run.specs.Words.{check_words, intervals_words}
 use Rattle.pq_run.specs.declared.status.DatFault.TheVariants as dat_fault
-use Rattle.comtrade_cfg.specs.declared.fault.Quantity.TheVariants as quantity
+use Rattle.cfg_fields.specs.declared.fault.Quantity.TheVariants as quantity
 use Rattle.pq_run.specs.declared.status.Status.TheVariants as status
-use Rattle.comtrade_cfg.specs.declared.fault.Unsupported.TheVariants as unsupported
+use Rattle.cfg_fields.specs.declared.fault.Unsupported.TheVariants as unsupported
 use Rattle.pq_sequence.specs.BasicInterval.{basic_runs, front_of, fronts}
 use Rattle.pq_sequence.specs.MeasuredRecording.{all_events, tick_places}
 use Rattle.pq_sequence.specs.SequentialResult.{items_under, sequential}

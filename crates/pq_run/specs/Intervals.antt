@@ -7,10 +7,10 @@ use Rattle.pq_run.specs.StrictCfg.{strict_count}
 use Rattle.pq_run.specs.Verdict.{Refused, Job, Course, Ends, Asks, with_file}
 use Rattle.pq_run.specs.Words.{Words, intervals_words}
 use Rattle.pq_run.specs.declared.status.DatFault.{DatFault}
-use Rattle.comtrade_cfg.specs.declared.fault.Quantity.TheVariants as quantity
+use Rattle.cfg_fields.specs.declared.fault.Quantity.TheVariants as quantity
 use Rattle.pq_run.specs.declared.status.Status.{Status}
 use Rattle.pq_run.specs.declared.status.Status.TheVariants as status
-use Rattle.comtrade_cfg.specs.declared.fault.Unsupported.TheVariants as unsupported
+use Rattle.cfg_fields.specs.declared.fault.Unsupported.TheVariants as unsupported
 use Rattle.pq_words.specs.Text.{Text}
 
 -- a dat of n records: its first fault, or else the report of its samples at a declared voltage

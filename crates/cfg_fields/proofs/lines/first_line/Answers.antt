@@ -1,7 +1,7 @@
 use Rattle.std.proofs.Common.{sym, arith}
 use Rattle.std.proofs.lemmas.Bool.Decides.{nat_tests}
-use Rattle.comtrade_cfg.proofs.LineLemmas.{lines_cut, last_line}
-use Rattle.comtrade_cfg.proofs.lines.first_line.Goals as goal
+use Rattle.cfg_fields.proofs.LineLemmas.{lines_cut, last_line}
+use Rattle.cfg_fields.proofs.lines.first_line.Goals as goal
 
 -- a line feed was found
 pub returns-in-Some-clause-value : goal.returns-in-Some-clause-value

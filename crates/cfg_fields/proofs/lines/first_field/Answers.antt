@@ -1,6 +1,6 @@
 use Rattle.std.proofs.Common.{sym}
-use Rattle.comtrade_cfg.proofs.LineLemmas.{fields_cut, one_field}
-use Rattle.comtrade_cfg.proofs.lines.first_field.Goals as goal
+use Rattle.cfg_fields.proofs.LineLemmas.{fields_cut, one_field}
+use Rattle.cfg_fields.proofs.lines.first_field.Goals as goal
 
 -- a comma was found
 pub returns-in-Some-clause-value : goal.returns-in-Some-clause-value

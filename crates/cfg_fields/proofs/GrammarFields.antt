@@ -8,16 +8,15 @@ use Rattle.pq_words.specs.FirstFault.{◌>>=◌, provided}
 use Rattle.pq_words.proofs.ReadingLemmas.{provided_ok, some_ok}
 use Rattle.pq_base.specs.declared.decimal.Scaled.{Scaled}
 use Rattle.pq_base.specs.Decimal.{decimal_of, shifted}
-use Rattle.comtrade_cfg.specs.declared.fault.CfgFault.{CfgFault}
-use Rattle.comtrade_cfg.specs.declared.fault.CfgFault.TheVariants as fault
-use Rattle.comtrade_cfg.specs.declared.fault.Quantity.{Quantity}
-use Rattle.comtrade_cfg.specs.declared.fault.Quantity.TheVariants as quantity
-use Rattle.comtrade_cfg.specs.declared.fault.Unsupported.TheVariants as unsupported
-use Rattle.comtrade_cfg.specs.Fields.{field_or_fault, text_field, number_field, position_field, decimal_field, decimal_text, lettered, channel_count, frequency_of, frequency_field, is_rate, rate_of, rate_field, samples_field, leap_digit, leap_field}
-use Rattle.comtrade_cfg.specs.Grammar.{IsTextField, IsMillionths}
-use Rattle.comtrade_cfg.proofs.LinesRead.{from_bind, same_ok}
-use Rattle.comtrade_cfg.proofs.WrittenFacts.{mapped_some}
-use Rattle.comtrade_cfg.proofs.GrammarPlaces.{goes}
+use Rattle.cfg_fields.specs.declared.fault.CfgFault.{CfgFault}
+use Rattle.cfg_fields.specs.declared.fault.CfgFault.TheVariants as fault
+use Rattle.cfg_fields.specs.declared.fault.Quantity.{Quantity}
+use Rattle.cfg_fields.specs.declared.fault.Quantity.TheVariants as quantity
+use Rattle.cfg_fields.specs.declared.fault.Unsupported.TheVariants as unsupported
+use Rattle.cfg_fields.specs.Fields.{field_or_fault, text_field, number_field, position_field, decimal_field, decimal_text, lettered, channel_count, frequency_of, frequency_field, is_rate, rate_of, rate_field, samples_field, leap_digit, leap_field}
+use Rattle.cfg_fields.specs.FieldGrammar.{IsTextField, IsMillionths}
+use Rattle.cfg_fields.proofs.ReadingLaws.{from_bind, same_ok, goes}
+use Rattle.cfg_fields.proofs.WrittenFacts.{mapped_some}
 
 -- one of two tests held
 pub either : (a b : Bool) → (a || b) ≡ true → (a ≡ true) ⊎ (b ≡ true)

@@ -12,8 +12,8 @@ use Rattle.std.proofs.lemmas.List.Folds.{list_all-append}
 use Rattle.std.proofs.lemmas.Str.Parse.{digit_from_value}
 use Rattle.pq_base.proofs.DigitsLemmas.{next_power, digits_joined}
 use Rattle.pq_words.specs.Text.{Text, is_blank, padded, digits_between, number}
-use Rattle.comtrade_cfg.specs.Fields.{lettered}
-use Rattle.comtrade_cfg.proofs.ReadBackText.{IsFree, IsField}
+use Rattle.cfg_fields.specs.Fields.{lettered}
+use Rattle.cfg_fields.proofs.FieldTexts.{IsFree, IsField}
 
 -- ---- digits
 

@@ -3,7 +3,7 @@ use Rattle.std.proofs.Common.{◌≡◌, ℕ, ◌+◌, ◌-◌, ◌<◌, cond, m
 use Rattle.std.specs.Str.Lines.{lines, lines_of_parts, strip_carriage_return}
 use Rattle.std.proofs.lemmas.Bool.{ne_eqb}
 use Rattle.pq_words.specs.Text.{Text, parted_at, trimmed}
-use Rattle.comtrade_cfg.specs.Fields.{fields_of}
+use Rattle.cfg_fields.specs.Fields.{fields_of}
 use Rattle.pq_time.proofs.FieldLemmas.{parts_cut, one_part, some_part}
 
 parts_before : (x : Text) (parts : List Text) → 0 < length parts → lines_of_parts (x ∷ parts) ≡ strip_carriage_return x ∷ lines_of_parts parts

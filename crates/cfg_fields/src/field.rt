@@ -2,15 +2,12 @@
 ghost use Rattle.std.specs.Prelude.{Ok, ◌*◌, ◌≡◌, ◌==◌, ◌<◌, ◌≤◌, ◌^◌, ◌⊎◌, IfOk, IfSome};
 ghost use Rattle.std.specs.List.{list_any};
 ghost use Rattle.std.specs.Str.{str_eq_ignore_ascii_case};
-ghost use Rattle.pq_words.specs.Magnitude.{IsWithin};
 ghost use Rattle.pq_words.specs.Text.{number};
 ghost use Rattle.pq_base.specs.Decimal.{decimal_of};
-ghost use Rattle.pq_time.specs.Moment.{written_moment};
-ghost use Rattle.comtrade_cfg.specs.Fields.{Gives, text_field, number_field, position_field, decimal_text, decimal_field, lettered, channel_count, frequency_field, rate_field, samples_field, moment_fields};
+ghost use Rattle.cfg_fields.specs.Fields.{Gives, text_field, number_field, position_field, decimal_text, decimal_field, lettered, channel_count, frequency_field, rate_field, samples_field};
 
 use crate::fault::{CfgFault, Quantity, Unsupported};
 use pq_base::{Scaled, Text, read_decimal, read_number};
-use pq_time::{BadMoment, read_moment};
 use std::alloc::Global;
 
 const MOST_CHANNELS: u64 = 999;
@@ -26,8 +23,8 @@ fn has_carriage_return(text: &[u8]) -> bool
     text.iter().any(|byte| *byte == b'\r')
 }
 
-// The texts are the same, without regard to case.
-pub(crate) fn is_word(text: &[u8], word: &[u8]) -> bool
+/// Whether a text is this word, without regard to the case of its ASCII letters.
+pub fn is_word(text: &[u8], word: &[u8]) -> bool
     ensures { result ≡ str_eq_ignore_ascii_case text.now word.now }
 {
     text.eq_ignore_ascii_case(word)
@@ -40,14 +37,13 @@ fn copied(alloc: Global, text: &[u8]) -> Result<Text, CfgFault>
     Ok(Text::new(Vec::from_slice(alloc, text)?))
 }
 
-// A text, which holds no carriage return.
+/// Reads a text.
+///
+/// # Errors
+///
+/// [`CfgFault::Field`] where it holds a carriage return, [`CfgFault::OutOfMemory`].
 #[tactic(auto, unfolding(crate::specs::Fields::text_field))]
-pub(crate) fn text_field(
-    alloc: Global,
-    line: u32,
-    field: u32,
-    text: &[u8],
-) -> Result<Text, CfgFault>
+pub fn text_field(alloc: Global, line: u32, field: u32, text: &[u8]) -> Result<Text, CfgFault>
     ensures { Gives (λ t. t) result (text_field line field text.now) }
 {
     if has_carriage_return(text) {
@@ -56,22 +52,25 @@ pub(crate) fn text_field(
     copied(alloc, text)
 }
 
-// A number.
+/// Reads a number of one to ten digits.
+///
+/// # Errors
+///
+/// [`CfgFault::Field`] where the text is no such number.
 #[tactic(auto, unfolding(crate::specs::Fields::number_field))]
-pub(crate) fn number_field(line: u32, field: u32, text: &[u8]) -> Result<u64, CfgFault>
+pub fn number_field(line: u32, field: u32, text: &[u8]) -> Result<u64, CfgFault>
     ensures { Gives (λ n. n) result (number_field line field text.now) }
 {
     read_number(text).ok_or(CfgFault::Field { line, field })
 }
 
-// The position of a line among its kind, or a total.
+/// Reads a number that is known before: the position of a line among its kind, from 1, or a total.
+///
+/// # Errors
+///
+/// [`CfgFault::Field`] where the text is no number, or another one.
 #[tactic(auto, unfolding(crate::specs::Fields::position_field))]
-pub(crate) fn position_field(
-    position: u32,
-    line: u32,
-    field: u32,
-    text: &[u8],
-) -> Result<u64, CfgFault>
+pub fn position_field(position: u32, line: u32, field: u32, text: &[u8]) -> Result<u64, CfgFault>
     ensures { Gives (λ n. n) result (position_field position line field text.now) }
 {
     let number = number_field(line, field, text)?;
@@ -93,9 +92,15 @@ fn lettered(capital: u8, text: &[u8]) -> Option<u64>
     read_number(digits)
 }
 
-// A number of channels with its letter.
+/// Reads a number of channels, behind which a letter stands, as capital or small: `capital` is `A` for
+/// analogue channels and `D` for status channels, and `what` names them.
+///
+/// # Errors
+///
+/// [`CfgFault::Field`] where the text is no number with this letter, and else [`CfgFault::Limit`] where
+/// there are more than 999.
 #[tactic(auto, unfolding(crate::specs::Fields::channel_count))]
-pub(crate) fn channel_count(
+pub fn channel_count(
     capital: u8,
     what: Quantity,
     line: u32,
@@ -121,23 +126,27 @@ fn decimal_field(line: u32, field: u32, text: &[u8]) -> Result<Scaled, CfgFault>
     read_decimal(text).ok_or(CfgFault::Field { line, field })
 }
 
-// A decimal that keeps its spelling.
+/// Reads a decimal, and keeps its spelling.
+///
+/// # Errors
+///
+/// [`CfgFault::Field`] where the text is no decimal, [`CfgFault::OutOfMemory`].
 #[tactic(auto, unfolding(crate::specs::Fields::decimal_text))]
-pub(crate) fn decimal_text(
-    alloc: Global,
-    line: u32,
-    field: u32,
-    text: &[u8],
-) -> Result<Text, CfgFault>
+pub fn decimal_text(alloc: Global, line: u32, field: u32, text: &[u8]) -> Result<Text, CfgFault>
     ensures { Gives (λ t. t) result (decimal_text line field text.now) }
 {
     let _value = decimal_field(line, field, text)?;
     copied(alloc, text)
 }
 
-// The line frequency in hertz.
+/// Reads the line frequency, in hertz: 50 or 60, after rounding to microhertz.
+///
+/// # Errors
+///
+/// [`CfgFault::Field`] where the text is no decimal, and else [`CfgFault::Unsupported`] where it is
+/// neither of them.
 #[tactic(auto, unfolding(crate::specs::Fields::frequency_field))]
-pub(crate) fn frequency_field(line: u32, field: u32, text: &[u8]) -> Result<u32, CfgFault>
+pub fn frequency_field(line: u32, field: u32, text: &[u8]) -> Result<u32, CfgFault>
     ensures value { Gives (λ n. n) result (frequency_field line field text.now) }
     ensures known { IfOk result (λ n. (n ≡ 50) ⊎ (n ≡ 60)) }
 {
@@ -151,9 +160,15 @@ pub(crate) fn frequency_field(line: u32, field: u32, text: &[u8]) -> Result<u32,
     }
 }
 
-// The sampling rate in microhertz.
+/// Reads the sampling rate, a decimal in hertz, and gives it in microhertz, rounded half away from zero.
+/// The line frequency `lf` is in hertz.
+///
+/// # Errors
+///
+/// [`CfgFault::Field`] where the text is no decimal, and else [`CfgFault::Limit`] where the rounded rate
+/// is under 16 samples a cycle of the line frequency, or over 200,000 hertz.
 #[tactic(auto, unfolding(crate::specs::Fields::rate_field))]
-pub(crate) fn rate_field(lf: u32, line: u32, field: u32, text: &[u8]) -> Result<u64, CfgFault>
+pub fn rate_field(lf: u32, line: u32, field: u32, text: &[u8]) -> Result<u64, CfgFault>
     requires { lf ≤ 60 }
     ensures { Gives (λ n. n) result (rate_field lf line field text.now) }
 {
@@ -167,9 +182,14 @@ pub(crate) fn rate_field(lf: u32, line: u32, field: u32, text: &[u8]) -> Result<
     }
 }
 
-// The number of samples.
+/// Reads the number of samples.
+///
+/// # Errors
+///
+/// [`CfgFault::Field`] where the text is no number, and else [`CfgFault::Limit`] where there are more than
+/// 50,000,000.
 #[tactic(auto, unfolding(crate::specs::Fields::samples_field))]
-pub(crate) fn samples_field(line: u32, field: u32, text: &[u8]) -> Result<u64, CfgFault>
+pub fn samples_field(line: u32, field: u32, text: &[u8]) -> Result<u64, CfgFault>
     ensures { Gives (λ n. n) result (samples_field line field text.now) }
 {
     let samples = number_field(line, field, text)?;
@@ -180,16 +200,4 @@ pub(crate) fn samples_field(line: u32, field: u32, text: &[u8]) -> Result<u64, C
         });
     }
     Ok(samples)
-}
-
-// A moment as written: the date is field 1, the time field 2.
-pub(crate) fn moment_fields(line: u32, date: &[u8], time: &[u8]) -> Result<i64, CfgFault>
-    ensures value { Gives (λ t. t) result (moment_fields line (written_moment date.now time.now)) }
-    ensures within { IfOk result (IsWithin (8 * 10 ^ 18)) }
-{
-    match read_moment(date, time) {
-        Ok(moment) => Ok(moment),
-        Err(BadMoment::Date) => Err(CfgFault::Field { line, field: 1 }),
-        Err(BadMoment::Time) => Err(CfgFault::Field { line, field: 2 }),
-    }
 }

@@ -8,7 +8,7 @@ use Rattle.std.proofs.lemmas.Int.Digits.{digits_value-lt}
 use Rattle.std.proofs.lemmas.Option.{option_and_then_some}
 use Rattle.std.proofs.lemmas.Bool.{and_parts, leb-true, ltb-true}
 use Rattle.std.proofs.lemmas.Bool.Decides.{nat_tests}
-use Rattle.jiff_core.proofs.SignedLemmas.{signed_arith}
+use Rattle.std.proofs.lemmas.Int.{ints}
 use Rattle.pq_words.specs.Text.{Text, parted_at, digits_between}
 use Rattle.pq_words.specs.Magnitude.{IsWithin}
 use Rattle.pq_time.specs.Written.{CivilDate, TimeOfDay, is_civil_date, is_time_of_day, where_passes, date_of, date_of_parts, time_of, time_of_parts, second_of, nanoseconds_of, minutes_of_numbers, minutes_of_parts, minutes_of, code_of}
@@ -158,9 +158,9 @@ code_small (c ∷ text) z e = at (c == 45) e
         let m = mapped_some {A = ℕ} _ (minutes_of text) z e in
         let small : m.0 ≤ 899 = minutes_small text m.0 m.1 in
         let is : neg_ℤ (pos m.0) ≡ z = m.2 in
-        omega (arith, signed_arith, is, small)
+        omega (arith, ints, is, small)
     at false e =
         let m = mapped_some {A = ℕ} pos (minutes_of (cond (c == 43) text (c ∷ text))) z e in
         let small : m.0 ≤ 899 = minutes_small (cond (c == 43) text (c ∷ text)) m.0 m.1 in
         let is : pos m.0 ≡ z = m.2 in
-        omega (arith, signed_arith, is, small)
+        omega (arith, ints, is, small)

@@ -2,9 +2,9 @@
 ghost use Rattle.std.specs.Prelude.{◌≡◌, ◌==◌, ◌<◌, [], ◌∷◌, length, position, map, IfSome, IfNone, IfOk, OnErr, IsErrOf};
 ghost use Rattle.std.specs.Str.Lines.{lines, strip_carriage_return};
 ghost use Rattle.pq_words.specs.Text.{trimmed};
-ghost use Rattle.comtrade_cfg.specs.Cursor.{ahead};
-ghost use Rattle.comtrade_cfg.specs.Fields.{Gives, fields_of, next_line, only_blank_lines};
-ghost use Rattle.comtrade_cfg.specs.declared.fault.CfgFault.TheVariants as fault;
+ghost use Rattle.cfg_fields.specs.Cursor.{ahead};
+ghost use Rattle.cfg_fields.specs.Fields.{Gives, fields_of, next_line, only_blank_lines};
+ghost use Rattle.cfg_fields.specs.declared.fault.CfgFault.TheVariants as fault;
 
 use crate::blank::{is_all_blank, trimmed};
 use crate::cursor::Cursor;
@@ -52,8 +52,13 @@ fn first_line(text: &[u8]) -> Option<(&[u8], &[u8])>
     }
 }
 
-// The next line, and the cursor behind it.
-pub(crate) fn next_line(cursor: Cursor) -> Result<(&[u8], Cursor), CfgFault>
+/// The next line without its line end, and the cursor behind it. A line ends with LF or CR LF, and the
+/// end of the text after a line end begins no line.
+///
+/// # Errors
+///
+/// [`CfgFault::Line`] with the line's number where there is none.
+pub fn next_line(cursor: Cursor) -> Result<(&[u8], Cursor), CfgFault>
     ensures { Gives (λ x. (x.0.now, ahead x.1)) result (next_line (ahead cursor.entry)) }
 {
     let Cursor { number, rest } = cursor;
@@ -81,8 +86,12 @@ fn first_field(text: &[u8]) -> Option<(&[u8], &[u8])>
     }
 }
 
-// The fields of a line, without blanks at both ends.
-pub(crate) fn fields_of(alloc: Global, line: &[u8]) -> Result<Vec<&[u8]>, CfgFault>
+/// The fields of a line: what stands between its commas, without blanks at both ends.
+///
+/// # Errors
+///
+/// [`CfgFault::OutOfMemory`].
+pub fn fields_of(alloc: Global, line: &[u8]) -> Result<Vec<&[u8]>, CfgFault>
     ensures value { IfOk result (λ fields. map (λ field. field.now) fields.items ≡ fields_of line.now) }
     ensures err { OnErr result (IsErrOf result fault.OutOfMemory) }
 {
@@ -96,8 +105,12 @@ pub(crate) fn fields_of(alloc: Global, line: &[u8]) -> Result<Vec<&[u8]>, CfgFau
     Ok(fields)
 }
 
-// What stands behind the last line holds nothing but blanks.
-pub(crate) fn only_blank_lines(cursor: Cursor) -> Result<(), CfgFault>
+/// Whether what stands behind the last line holds nothing but blanks.
+///
+/// # Errors
+///
+/// [`CfgFault::Line`] with the number of the first line that holds something else.
+pub fn only_blank_lines(cursor: Cursor) -> Result<(), CfgFault>
     ensures { Gives (λ x. x) result (only_blank_lines cursor.entry.number (lines cursor.entry.rest.now)) }
 {
     let Cursor {

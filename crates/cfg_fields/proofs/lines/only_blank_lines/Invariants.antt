@@ -1,7 +1,7 @@
 use Rattle.std.proofs.Common.{◌≡◌, ◌+◌, ◌<◌, ◌^◌, length}
 use Rattle.std.specs.Str.Lines.{lines}
-use Rattle.comtrade_cfg.specs.Fields.{only_blank_lines}
-use Rattle.comtrade_cfg.proofs.lines.only_blank_lines.Given as goal
+use Rattle.cfg_fields.specs.Fields.{only_blank_lines}
+use Rattle.cfg_fields.proofs.lines.only_blank_lines.Given as goal
 
 abbrev pub invariant-loop-line : goal.invariant-loop-line
 invariant-loop-line l = record {

@@ -1,6 +1,6 @@
 use Rattle.std.proofs.Common.{◌≡◌, ◌++◌, length, map}
-use Rattle.comtrade_cfg.specs.Fields.{fields_of}
-use Rattle.comtrade_cfg.proofs.lines.fields_of.Given as goal
+use Rattle.cfg_fields.specs.Fields.{fields_of}
+use Rattle.cfg_fields.proofs.lines.fields_of.Given as goal
 
 abbrev pub invariant-loop-field : goal.invariant-loop-field
 invariant-loop-field l = map (λ field. field.now) l.fields.items ++ fields_of l.rest ≡ fields_of l.line

@@ -1,6 +1,6 @@
 // Why a text is no cfg.
 ghost use Rattle.std.specs.Prelude.{◌≡◌};
-ghost use Rattle.comtrade_cfg.specs.declared.fault.CfgFault.TheVariants as fault;
+ghost use Rattle.cfg_fields.specs.declared.fault.CfgFault.TheVariants as fault;
 
 use std::alloc::{AllocError, AllocFailed};
 

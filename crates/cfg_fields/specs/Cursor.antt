@@ -1,7 +1,7 @@
 -- What contracts see of a cursor.
 use Rattle.std.specs.Str.Lines.{lines}
-use Rattle.comtrade_cfg.specs.declared.cursor.Cursor.{Cursor}
-use Rattle.comtrade_cfg.specs.Fields.{Ahead}
+use Rattle.cfg_fields.specs.declared.cursor.Cursor.{Cursor}
+use Rattle.cfg_fields.specs.Fields.{Ahead}
 
 -- what lies ahead of a cursor
 abbrev pub ahead : Cursor → Ahead

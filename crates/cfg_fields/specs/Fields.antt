@@ -12,11 +12,11 @@ use Rattle.pq_base.specs.Decimal.{decimal_of, shifted}
 use Rattle.pq_time.specs.declared.bad_moment.BadMoment.{BadMoment}
 use Rattle.pq_time.specs.declared.bad_moment.BadMoment.TheVariants as bad
 use Rattle.pq_time.specs.Written.{code_of}
-use Rattle.comtrade_cfg.specs.declared.fault.CfgFault.{CfgFault}
-use Rattle.comtrade_cfg.specs.declared.fault.CfgFault.TheVariants as fault
-use Rattle.comtrade_cfg.specs.declared.fault.Quantity.{Quantity}
-use Rattle.comtrade_cfg.specs.declared.fault.Quantity.TheVariants as quantity
-use Rattle.comtrade_cfg.specs.declared.fault.Unsupported.TheVariants as unsupported
+use Rattle.cfg_fields.specs.declared.fault.CfgFault.{CfgFault}
+use Rattle.cfg_fields.specs.declared.fault.CfgFault.TheVariants as fault
+use Rattle.cfg_fields.specs.declared.fault.Quantity.{Quantity}
+use Rattle.cfg_fields.specs.declared.fault.Quantity.TheVariants as quantity
+use Rattle.cfg_fields.specs.declared.fault.Unsupported.TheVariants as unsupported
 
 -- what reading a part of a cfg may answer: the value, seen by view, the first fault, or want of memory
 abbrev pub Gives : {X Y : Type 0} → (X → Y) → Result X CfgFault → Result Y CfgFault → Type 0
