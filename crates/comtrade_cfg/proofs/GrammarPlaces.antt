@@ -3,7 +3,6 @@ use Rattle.std.proofs.Common.{◌≡◌, ℕ, zero, suc, ◌+◌, ◌-◌, ◌�
 use Rattle.std.specs.Prelude.{slice_get, IsTrue}
 use Rattle.std.specs.Option.{option_map_or}
 use Rattle.pq_words.specs.Text.{Text, is_all_blank}
-use Rattle.pq_words.specs.FirstFault.{◌>>=◌}
 use Rattle.cfg_fields.specs.declared.fault.CfgFault.{CfgFault}
 use Rattle.cfg_fields.specs.declared.fault.CfgFault.TheVariants as fault
 use Rattle.cfg_fields.specs.Fields.{Ahead, LineRule, line_of, next_line, on_line, fields_of, only_blank_lines}

@@ -5,7 +5,6 @@ pub mod PrintLemmas
 pub mod TwoIntervalsCfg
 mod StandardFacts
 mod OtherFacts
-pub mod ReadingSteps
 pub mod ValueLemmas
 pub mod ReadBackText
 pub mod CanonicalFacts

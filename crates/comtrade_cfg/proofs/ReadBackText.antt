@@ -1,12 +1,8 @@
 -- The lines of a canonical text, and the fields of a row.
-use Rattle.std.proofs.Common.{◌≡◌, ℕ, ◌+◌, ◌-◌, ◌<◌, ◌≤◌, ◌==◌, ◌||◌, Bool, true, false, cond, List, [], ◌∷◌, ◌++◌, map, take, drop, get_or, length, append_assoc, refl, sym, ap, ◌∙◌, arith}
-use Rattle.std.specs.List.{list_any, slice_split, onto_first, prefix_len, suffix_len, AllByRecursion}
-use Rattle.std.specs.Str.Lines.{lines, lines_of_parts, strip_carriage_return}
-use Rattle.std.proofs.lemmas.List.{length-append, take-append-le, get_or-append-add, take_all}
-use Rattle.std.proofs.lemmas.List.Folds.{list_any-append}
-use Rattle.std.proofs.lemmas.List.Splits.{slice_split-cons_yes, slice_split-cons_no}
-use Rattle.std.proofs.lemmas.List.Sums.{prefix_len_is, suffix_len_is}
-use Rattle.pq_words.specs.Text.{Text, is_blank, trimmed, parted_at}
+use Rattle.std.proofs.Common.{◌≡◌, ◌==◌, false, List, [], ◌∷◌, ◌++◌, map, append_assoc, refl, sym, ap, ◌∙◌}
+use Rattle.std.specs.List.{list_any, slice_split, AllByRecursion}
+use Rattle.std.specs.Str.Lines.{lines, lines_of_parts}
+use Rattle.pq_words.specs.Text.{Text, trimmed, parted_at}
 use Rattle.cfg_fields.specs.Fields.{fields_of}
 use Rattle.comtrade_cfg.specs.Canonical.{row_of}
 use Rattle.comtrade_cfg.specs.CanonicalParts.{lines_text}

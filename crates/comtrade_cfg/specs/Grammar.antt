@@ -1,11 +1,11 @@
 -- Which texts are cfgs and what they say, line by line, apart from any order of reading (C37.111, configuration file).
-use Rattle.std.specs.Prelude.{◌≡◌, ℕ, ◌+◌, ◌-◌, ◌*◌, ◌^◌, ◌≤◌, ◌⊎◌, ◌==◌, List, [], ◌∷◌, length, ℤ, pos, Option, Some, None, option_map, slice_get, Ok, codes, IsTrue, IsFalse, IsSome}
+use Rattle.std.specs.Prelude.{◌≡◌, ℕ, ◌+◌, ◌-◌, ◌*◌, ◌^◌, ◌≤◌, ◌⊎◌, List, [], ◌∷◌, length, ℤ, pos, Option, Some, None, slice_get, Ok, codes, IsTrue, IsSome}
 use Rattle.std.specs.Option.{option_map_or}
 use Rattle.std.specs.Str.{str_eq_ignore_ascii_case}
 use Rattle.std.specs.Str.Lines.{lines}
-use Rattle.std.specs.List.{list_any, AllByRecursion}
+use Rattle.std.specs.List.{AllByRecursion}
 use Rattle.pq_words.specs.Text.{Text, number, is_all_blank}
-use Rattle.pq_base.specs.Decimal.{decimal_of, shifted}
+use Rattle.pq_base.specs.Decimal.{decimal_of}
 use Rattle.pq_time.specs.Written.{CivilDate, TimeOfDay, date_of, time_of, code_of}
 use Rattle.pq_time.specs.Moment.{moment_at, written_of}
 use Rattle.comtrade_cfg.specs.declared.cfg.Analogue.{Analogue}
