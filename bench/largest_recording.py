@@ -1,18 +1,26 @@
 #!/usr/bin/env python3
-"""Writes the largest strict recording, 718,800 samples of a sine, as largest.cfg and largest.dat into a folder."""
+"""Writes a recording of ten million samples as largest.cfg and largest.dat into a folder: a noisy sine at 1200
+samples a second, with a dip each ten minutes, from a second after noon on."""
 import struct
 import sys
 
 CYCLE = [0, 2588, 5000, 7071, 8660, 9659, 10000, 9659, 8660, 7071, 5000, 2588]
 CYCLE += [-count for count in CYCLE]
-SAMPLES = 718800
+SAMPLES = 10_000_000
 LINES = [
     "demo,pqa,1999", "1,1A,0D", "1,UA,A,,V,0.0325,0,0,-32767,32767,1,1,P", "50", "1", f"1200,{SAMPLES}",
     "01/03/2024,12:00:01.000000", "01/03/2024,12:00:01.000000", "BINARY", "1",
 ]
 
+
+def count(i):
+    size = 7000 if i % 720_000 < 600 else 10_000
+    return CYCLE[i % 24] * size // 10_000 + i * 7919 % 41 - 20
+
+
 folder = sys.argv[1]
 with open(f"{folder}/largest.cfg", "w", newline="") as cfg:
     cfg.write("".join(line + "\n" for line in LINES))
 with open(f"{folder}/largest.dat", "wb") as dat:
-    dat.write(b"".join(struct.pack("<IIh", i + 1, 0, CYCLE[i % 24]) for i in range(SAMPLES)))
+    for start in range(0, SAMPLES, 100_000):
+        dat.write(b"".join(struct.pack("<IIh", i + 1, 0, count(i)) for i in range(start, start + 100_000)))

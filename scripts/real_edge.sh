@@ -50,7 +50,18 @@ expect "a file in place of a directory" 8 "read failed (1)"
 run intervals --udin 230000 large.cfg two_intervals.dat
 expect "a cfg over its limit" 4 "limit passed: cfg bytes"
 run intervals --udin 230000 two_intervals.dat two_intervals.dat
-expect "a cfg that isn't strict" 3 "cfg line 0: unsupported not yet"
+expect "a dat in place of the cfg" 2 "cfg line 1: missing, surplus or wrong number of fields"
+sed 's/0\.0325/305.2/' two_intervals.cfg >steep.cfg
+run intervals --udin 230000 steep.cfg two_intervals.dat
+expect "a coefficient past the limit" 4 "cfg line 3: limit passed: value"
+sed 's/,V,/,A,/' two_intervals.cfg >current.cfg
+run intervals --udin 230000 current.cfg two_intervals.dat
+expect "a current alone" 5 "selection: no voltage channel"
+run intervals --udin 230000 "$home"/examples/cfg_2013_with_32_states.cfg two_intervals.dat
+expect "a cfg of several channels" 3 "cfg line 2: unsupported not yet"
+(head -c 48 two_intervals.dat; printf '\000\200'; tail -c +51 two_intervals.dat) >missing.dat
+run intervals --udin 230000 two_intervals.cfg missing.dat
+expect "a missing count" 7 "dat record 5: channel 1 missing"
 run intervals --udin 230000 two_intervals.cfg cut.dat
 expect "a dat cut off" 7 "dat record 552: cut off"
 run intervals --udin 230000 two_intervals.cfg long.dat

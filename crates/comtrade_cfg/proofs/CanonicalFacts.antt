@@ -6,8 +6,8 @@ use Rattle.std.specs.Prelude.{reverse}
 use Rattle.std.proofs.lemmas.List.{length-take-le, length-drop, get_or-take, get_or-drop, get_or-reverse, length-reverse}
 use Rattle.std.proofs.lemmas.List.Sums.{prefix_len_stops}
 use Rattle.pq_words.specs.Text.{Text, is_blank, trimmed, parted_at}
-use Rattle.comtrade_cfg.specs.Fields.{fields_of}
-use Rattle.comtrade_cfg.proofs.ReadBackText.{IsFree, or_false, IsTrim, IsField}
+use Rattle.cfg_fields.specs.Fields.{fields_of}
+use Rattle.cfg_fields.proofs.FieldTexts.{IsFree, or_false, IsTrim, IsField}
 
 -- ---- parts of a text
 

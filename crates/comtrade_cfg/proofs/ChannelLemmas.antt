@@ -2,9 +2,9 @@
 use Rattle.std.proofs.Common.{◌≡◌, ℕ, suc, ◌-◌, ◌+◌, ◌≤◌, ◌<◌, ◌⊎◌, List, [], ◌∷◌, ◌++◌, Ok, Err, refl, sym, ap, ◌∙◌, inl, inr, append_assoc, arith}
 use Rattle.std.proofs.lemmas.List.{append-nil}
 use Rattle.pq_words.specs.FirstFault.{◌>>=◌}
-use Rattle.comtrade_cfg.specs.declared.fault.CfgFault.{CfgFault}
-use Rattle.comtrade_cfg.specs.declared.fault.CfgFault.TheVariants as fault
-use Rattle.comtrade_cfg.specs.Fields.{Ahead, Reading, LineRule, on_line}
+use Rattle.cfg_fields.specs.declared.fault.CfgFault.{CfgFault}
+use Rattle.cfg_fields.specs.declared.fault.CfgFault.TheVariants as fault
+use Rattle.cfg_fields.specs.Fields.{Ahead, Reading, LineRule, on_line}
 use Rattle.comtrade_cfg.specs.CfgText.{channel_lines}
 
 -- what was read before, and what is still read

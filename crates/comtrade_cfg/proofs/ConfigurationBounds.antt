@@ -1,5 +1,5 @@
 -- How large the parts of a configuration are that some text says.
-use Rattle.std.proofs.Common.{◌≡◌, ℕ, zero, suc, ◌+◌, ◌*◌, ◌^◌, ◌<◌, ◌≤◌, ◌⊎◌, inl, inr, Bool, true, false, cond, List, [], ◌∷◌, length, ℤ, pos, negsuc, neg_ℤ, Option, Some, None, Result, Ok, Err, refl, sym, subst, ap, ◌∙◌, arith, nat_le, nat_lt, ◌==◌, ◌&&◌}
+use Rattle.std.proofs.Common.{◌≡◌, ℕ, zero, suc, ◌+◌, ◌*◌, ◌^◌, ◌<◌, ◌≤◌, ◌⊎◌, Bool, true, false, cond, List, [], ◌∷◌, length, ℤ, pos, neg_ℤ, Option, Some, None, Result, Ok, Err, refl, sym, subst, ap, ◌∙◌, arith, nat_le, nat_lt, ◌==◌, ◌&&◌}
 use Rattle.std.specs.Option.{ForSome}
 use Rattle.std.specs.Char.{digit_value}
 use Rattle.std.proofs.lemmas.Bool.{and_parts, ltb-true, leb-true}
@@ -8,8 +8,7 @@ use Rattle.jiff_core.specs.declared.civil.date.Date.{Date}
 use Rattle.jiff_core.proofs.SignedLemmas.{signed_arith}
 use Rattle.pq_words.specs.Text.{Text}
 use Rattle.pq_words.specs.Magnitude.{IsWithin}
-use Rattle.pq_words.proofs.ReadingLemmas.{bind_ok, provided_ok, some_ok}
-use Rattle.pq_base.specs.Decimal.{shifted}
+use Rattle.pq_words.proofs.ReadingLemmas.{some_ok}
 use Rattle.pq_time.specs.declared.bad_moment.BadMoment.TheVariants as bad
 use Rattle.pq_time.specs.declared.bad_moment.BadMoment.{BadMoment}
 use Rattle.pq_time.specs.Written.{CivilDate, TimeOfDay, is_civil_date, date_of, time_of, code_of}
@@ -18,23 +17,17 @@ use Rattle.pq_time.proofs.DayLemmas.{written_day}
 use Rattle.comtrade_cfg.specs.declared.head.ChannelCounts.{ChannelCounts}
 use Rattle.comtrade_cfg.specs.declared.sampling.Sampling.{Sampling}
 use Rattle.comtrade_cfg.specs.declared.cfg.Zone.{Zone}
-use Rattle.comtrade_cfg.specs.declared.fault.CfgFault.TheVariants as fault
-use Rattle.comtrade_cfg.specs.declared.fault.Quantity.{Quantity}
-use Rattle.comtrade_cfg.specs.declared.fault.Quantity.TheVariants as quantity
+use Rattle.cfg_fields.specs.declared.fault.CfgFault.TheVariants as fault
+use Rattle.cfg_fields.specs.declared.fault.Quantity.TheVariants as quantity
 use Rattle.comtrade_cfg.specs.Configuration.{Configuration}
-use Rattle.comtrade_cfg.specs.Fields.{Ahead, LineRule, ahead_of, on_line, channel_count, position_field, decimal_field, frequency_of, frequency_field, is_rate, rate_of, rate_field, samples_field, number_field, moment_fields, fields_of, local_code_of, leap_field, field_or_fault, lettered, hexadecimal}
+use Rattle.cfg_fields.specs.Fields.{Ahead, LineRule, ahead_of, on_line, channel_count, position_field, rate_field, samples_field, moment_fields, fields_of, local_code_of, leap_field, field_or_fault, hexadecimal}
 use Rattle.comtrade_cfg.specs.CfgText.{configuration_of, configuration_ahead, channel_lines, counts_line, frequency_line, sampling_line, stamp_line, zone_lines, time_code_line, time_quality_line, analogue_line, status_line, offset_of, IsConfiguration}
-use Rattle.comtrade_cfg.proofs.LinesRead.{LinesRead, lines_read, line_read, from_bind, same_ok}
-use Rattle.comtrade_cfg.proofs.WrittenFacts.{date_civil, IsClockTime, time_clock, code_small}
+use Rattle.comtrade_cfg.proofs.LinesRead.{LinesRead, lines_read}
+use Rattle.cfg_fields.proofs.ReadingLaws.{line_read, from_bind, same_ok}
+use Rattle.cfg_fields.proofs.GrammarFields.{count_found, frequency_found, rate_found, samples_found}
+use Rattle.cfg_fields.proofs.WrittenFacts.{date_civil, IsClockTime, time_clock, code_small}
 
 -- ---- channels
-
-count_small : (capital : ℕ) (what : Quantity) (line field : ℕ) (text : Text) (n : ℕ) → channel_count capital what line field text ≡ Ok n → n ≤ 999
-unfolding channel_count
-count_small capital what line field text n e =
-    let a = bind_ok (field_or_fault line field (lettered capital text)) _ n e in
-    let p = provided_ok (nat_le a.0 999) (fault.Limit what line) a.0 n a.2 in
-    omega (arith, leb-true a.0 999 p.0, p.1)
 
 counts_small : (line : ℕ) (fields : List Text) (n : ChannelCounts) → counts_line line fields ≡ Ok n → (n.analogue ≤ 999) × (n.status ≤ 999)
 counts_small line [] n e = absurd cc
@@ -45,7 +38,7 @@ counts_small line (total ∷ analogue ∷ status ∷ []) n e =
     from_bind (position_field (a + d) line 1 total) _ n e (λ t t_is e.
     let same_a : a ≡ n.analogue = ap (λ (n : ChannelCounts). n.analogue) (same_ok e) in
     let same_d : d ≡ n.status = ap (λ (n : ChannelCounts). n.status) (same_ok e) in
-    (omega (arith, same_a, count_small 65 quantity.Analogue line 2 analogue a a_is), omega (arith, same_d, count_small 68 quantity.Status line 3 status d d_is)))))
+    (omega (arith, same_a, (count_found 65 quantity.Analogue line 2 analogue a a_is).1), omega (arith, same_d, (count_found 68 quantity.Status line 3 status d d_is).1)))))
 counts_small line (a ∷ b ∷ c ∷ d ∷ more) n e = absurd cc
 
 -- as many lines as were asked for
@@ -59,43 +52,15 @@ channels_read {A} rule position (suc n) start y e =
 
 -- ---- frequency and rate
 
-frequency_known : (z : ℤ) (n : ℕ) → frequency_of z ≡ Some n → (n ≡ 50) ⊎ (n ≡ 60)
-frequency_known (pos k) n e = at (k == 50000000) (k == 60000000) e
-  where
-    at : (a b : Bool) → cond a (Some 50) (cond b (Some 60) None) ≡ Some n → (n ≡ 50) ⊎ (n ≡ 60)
-    at true b e = inl cc
-    at false true e = inr cc
-    at false false e = absurd cc
-frequency_known (negsuc k) n e = absurd cc
-
-frequency_read : (line field : ℕ) (text : Text) (n : ℕ) → frequency_field line field text ≡ Ok n → (n ≡ 50) ⊎ (n ≡ 60)
-unfolding frequency_field
-frequency_read line field text n e = from_bind (decimal_field line field text) _ n e (λ x x_is e. frequency_known (shifted x 6) n (some_ok (frequency_of (shifted x 6)) _ n e))
-
 frequency_line_read : (line : ℕ) (fields : List Text) (n : ℕ) → frequency_line line fields ≡ Ok n → (n ≡ 50) ⊎ (n ≡ 60)
 frequency_line_read line [] n e = absurd cc
-frequency_line_read line (lf ∷ []) n e = frequency_read line 1 lf n e
+frequency_line_read line (lf ∷ []) n e = (frequency_found line 1 lf n e).1
 frequency_line_read line (a ∷ b ∷ more) n e = absurd cc
 
-rate_known : (lf : ℕ) (z : ℤ) (n : ℕ) → rate_of lf z ≡ Some n → (16 * lf * 10 ^ 6 ≤ n) × (n ≤ 200_000_000_000)
-rate_known lf (pos k) n e = at (is_rate lf k) refl e
-  where
-    at : (b : Bool) → is_rate lf k ≡ b → cond b (Some k) None ≡ Some n → (16 * lf * 10 ^ 6 ≤ n) × (n ≤ 200_000_000_000)
-    at true is e =
-        let same : k ≡ n = cc in
-        let p = and_parts (nat_le (16 * lf * 10 ^ 6) k) (nat_le k 200000000000) is in
-        (omega (arith, same, leb-true (16 * lf * 10 ^ 6) k p.0), omega (arith, same, leb-true k 200000000000 p.1))
-    at false is e = absurd cc
-rate_known lf (negsuc k) n e = absurd cc
-
 rate_read : (lf line field : ℕ) (text : Text) (n : ℕ) → rate_field lf line field text ≡ Ok n → (16 * lf * 10 ^ 6 ≤ n) × (n ≤ 200_000_000_000)
-unfolding rate_field
-rate_read lf line field text n e = from_bind (decimal_field line field text) _ n e (λ x x_is e. rate_known lf (shifted x 6) n (some_ok (rate_of lf (shifted x 6)) _ n e))
-
-samples_read : (line field : ℕ) (text : Text) (n : ℕ) → samples_field line field text ≡ Ok n → n ≤ 50_000_000
-unfolding samples_field
-samples_read line field text n e = from_bind (number_field line field text) _ n e (λ k k_is e.
-    let p = provided_ok (nat_le k 50000000) _ k n e in omega (arith, leb-true k 50000000 p.0, p.1))
+rate_read lf line field text n e =
+    let p = and_parts (nat_le (16 * lf * 10 ^ 6) n) (nat_le n 200000000000) (rate_found lf line field text n e).1 in
+    (leb-true (16 * lf * 10 ^ 6) n p.0, leb-true n 200000000000 p.1)
 
 sampling_read : (lf line : ℕ) (fields : List Text) (s : Sampling) → sampling_line lf line fields ≡ Ok s → (16 * lf * 10 ^ 6 ≤ s.rate) × (s.rate ≤ 200_000_000_000) × (s.endsamp ≤ 50_000_000)
 sampling_read lf line [] s e = absurd cc
@@ -105,7 +70,7 @@ sampling_read lf line (samp ∷ endsamp ∷ []) s e =
     let same_rate : rate ≡ s.rate = ap (λ (s : Sampling). s.rate) (same_ok e) in
     let same_n : n ≡ s.endsamp = ap (λ (s : Sampling). s.endsamp) (same_ok e) in
     let r = rate_read lf line 1 samp rate rate_is in
-    (omega (arith, same_rate, r.0), omega (arith, same_rate, r.1), omega (arith, same_n, samples_read line 2 endsamp n n_is))))
+    (omega (arith, same_rate, r.0), omega (arith, same_rate, r.1), omega (arith, same_n, (samples_found line 2 endsamp n n_is).1))))
 sampling_read lf line (a ∷ b ∷ c ∷ more) s e = absurd cc
 
 -- ---- moments
@@ -304,3 +269,7 @@ text_bounded text c e = bounded (ahead_of text) c (from_text text c e).1
 
 pub configuration_bounded : (c : Configuration) → IsConfiguration c → IsBounded c
 configuration_bounded c says = text_bounded says.0 c says.1
+
+-- it has at most 999 channels of each kind
+pub few : (c : Configuration) → IsConfiguration c → (length c.analogue ≤ 999) × (length c.status ≤ 999)
+few c says = let b = configuration_bounded c says in (b.analogue, b.status)

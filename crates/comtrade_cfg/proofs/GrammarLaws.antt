@@ -4,8 +4,8 @@ use Rattle.comtrade_cfg.specs.Configuration.{Configuration, view}
 use Rattle.comtrade_cfg.specs.CfgText.{GivesCfg, configuration_of}
 use Rattle.comtrade_cfg.specs.Grammar.{IsCfgText, ReadsTheGrammar}
 use Rattle.comtrade_cfg.specs.declared.cfg.Cfg.{Cfg}
-use Rattle.comtrade_cfg.specs.declared.fault.CfgFault.{CfgFault}
-use Rattle.comtrade_cfg.specs.declared.fault.CfgFault.TheVariants as fault
+use Rattle.cfg_fields.specs.declared.fault.CfgFault.{CfgFault}
+use Rattle.cfg_fields.specs.declared.fault.CfgFault.TheVariants as fault
 use Rattle.comtrade_cfg.proofs.GrammarFound as GrammarFound
 use Rattle.comtrade_cfg.proofs.GrammarOnly as GrammarOnly
 use Rattle.pq_words.specs.Text.{Text}

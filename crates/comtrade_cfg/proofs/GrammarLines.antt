@@ -16,16 +16,16 @@ use Rattle.comtrade_cfg.specs.declared.cfg.FileType.TheVariants.{Binary}
 use Rattle.comtrade_cfg.specs.declared.head.Station.{Station}
 use Rattle.comtrade_cfg.specs.declared.head.ChannelCounts.{ChannelCounts}
 use Rattle.comtrade_cfg.specs.declared.sampling.Sampling.{Sampling}
-use Rattle.comtrade_cfg.specs.declared.fault.CfgFault.TheVariants as fault
-use Rattle.comtrade_cfg.specs.declared.fault.Quantity.TheVariants as quantity
-use Rattle.comtrade_cfg.specs.declared.fault.Unsupported.TheVariants as unsupported
+use Rattle.cfg_fields.specs.declared.fault.CfgFault.TheVariants as fault
+use Rattle.cfg_fields.specs.declared.fault.Quantity.TheVariants as quantity
+use Rattle.cfg_fields.specs.declared.fault.Unsupported.TheVariants as unsupported
 use Rattle.comtrade_cfg.specs.Configuration.{Configuration}
-use Rattle.comtrade_cfg.specs.Fields.{text_field, number_field, position_field, decimal_text, channel_count, rate_field, samples_field, moment_fields}
+use Rattle.cfg_fields.specs.Fields.{text_field, number_field, position_field, decimal_text, channel_count, rate_field, samples_field, moment_fields}
 use Rattle.comtrade_cfg.specs.CfgText.{station_line, station_fields, counts_line, analogue_line, analogue_fields, status_line, status_fields, frequency_line, rates_line, sampling_line, stamp_line, file_type_line, is_other_file_type, timemult_line}
-use Rattle.comtrade_cfg.specs.Grammar.{IsTextField, IsStationLine, IsCountsLine, IsAnalogueLine, IsStatusLine, IsFrequencyLine, IsRatesLine, IsSamplingLine, IsStampLine, IsFileTypeLine, IsTimemultLine}
-use Rattle.comtrade_cfg.proofs.LinesRead.{from_bind, same_ok}
-use Rattle.comtrade_cfg.proofs.GrammarPlaces.{goes}
-use Rattle.comtrade_cfg.proofs.GrammarFields.{one_of, among, text_step, text_again, number_found, number_again, position_found, position_again, spelling_found, spelling_step, spelling_again, count_found, count_again, frequency_found, frequency_again, rate_found, rate_again, samples_found, samples_again}
+use Rattle.comtrade_cfg.specs.Grammar.{IsStationLine, IsCountsLine, IsAnalogueLine, IsStatusLine, IsFrequencyLine, IsRatesLine, IsSamplingLine, IsStampLine, IsFileTypeLine, IsTimemultLine}
+use Rattle.cfg_fields.specs.FieldGrammar.{IsTextField}
+use Rattle.cfg_fields.proofs.ReadingLaws.{from_bind, same_ok, goes}
+use Rattle.cfg_fields.proofs.GrammarFields.{one_of, among, text_step, text_again, number_found, number_again, position_found, position_again, spelling_found, spelling_step, spelling_again, count_found, count_again, frequency_found, frequency_again, rate_found, rate_again, samples_found, samples_again}
 
 -- ---- station and numbers of channels
 

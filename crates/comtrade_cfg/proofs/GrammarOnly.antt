@@ -6,13 +6,14 @@ use Rattle.std.proofs.lemmas.Bool.{le-leb}
 use Rattle.jiff_core.proofs.SignedLemmas.{signed_arith}
 use Rattle.pq_words.specs.Text.{Text}
 use Rattle.pq_time.specs.Moment.{utc_of, written_of}
-use Rattle.comtrade_cfg.specs.declared.fault.CfgFault.TheVariants as fault
-use Rattle.comtrade_cfg.specs.declared.fault.Quantity.TheVariants as quantity
+use Rattle.cfg_fields.specs.declared.fault.CfgFault.TheVariants as fault
+use Rattle.cfg_fields.specs.declared.fault.Quantity.TheVariants as quantity
 use Rattle.comtrade_cfg.specs.Configuration.{Configuration}
-use Rattle.comtrade_cfg.specs.Fields.{ahead_of, on_line, only_blank_lines}
+use Rattle.cfg_fields.specs.Fields.{ahead_of, on_line, only_blank_lines}
 use Rattle.comtrade_cfg.specs.CfgText.{configuration_of, configuration_ahead, channel_lines, station_line, counts_line, analogue_line, status_line, frequency_line, rates_line, sampling_line, stamp_line, file_type_line, timemult_line, zone_lines, offset_of}
 use Rattle.comtrade_cfg.specs.Grammar.{fields_at, after_channels, last_line, HasZoneLines, LinesSay, IsCfgText}
-use Rattle.comtrade_cfg.proofs.GrammarPlaces.{place, goes, line_again, Each, channels_again, blank_again}
+use Rattle.comtrade_cfg.proofs.GrammarPlaces.{place, line_again, Each, channels_again, blank_again}
+use Rattle.cfg_fields.proofs.ReadingLaws.{goes}
 use Rattle.comtrade_cfg.proofs.GrammarLines.{station_of, station_again, counts_again, analogue_again, status_again, frequency_line_again, rates_again, sampling_of, sampling_again, stamp_again, file_type_again, timemult_again}
 use Rattle.comtrade_cfg.proofs.GrammarZone.{zone_again}
 

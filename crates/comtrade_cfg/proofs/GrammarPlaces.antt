@@ -3,13 +3,12 @@ use Rattle.std.proofs.Common.{◌≡◌, ℕ, zero, suc, ◌+◌, ◌-◌, ◌�
 use Rattle.std.specs.Prelude.{slice_get, IsTrue}
 use Rattle.std.specs.Option.{option_map_or}
 use Rattle.pq_words.specs.Text.{Text, is_all_blank}
-use Rattle.pq_words.specs.FirstFault.{◌>>=◌}
-use Rattle.comtrade_cfg.specs.declared.fault.CfgFault.{CfgFault}
-use Rattle.comtrade_cfg.specs.declared.fault.CfgFault.TheVariants as fault
-use Rattle.comtrade_cfg.specs.Fields.{Ahead, LineRule, line_of, next_line, on_line, fields_of, only_blank_lines}
+use Rattle.cfg_fields.specs.declared.fault.CfgFault.{CfgFault}
+use Rattle.cfg_fields.specs.declared.fault.CfgFault.TheVariants as fault
+use Rattle.cfg_fields.specs.Fields.{Ahead, LineRule, line_of, next_line, on_line, fields_of, only_blank_lines}
 use Rattle.comtrade_cfg.specs.CfgText.{channel_lines}
 use Rattle.comtrade_cfg.specs.Grammar.{fields_at}
-use Rattle.comtrade_cfg.proofs.LinesRead.{line_read, from_bind, same_ok}
+use Rattle.cfg_fields.proofs.ReadingLaws.{line_read, from_bind, same_ok, goes}
 
 -- these lines, of which the next one has this number
 abbrev pub with_lines : ℕ → List Text → Ahead
@@ -69,10 +68,6 @@ line_found {A} rule text i k start y n s e =
         let fields : fields_at text k ≡ fields_of line = fields_from text i k (Some l) n here.0 ∙ ap fields_of of_line in
         let next : numbered text (i + 1 + 1) (suc i) ≡ y.1 = ap (λ (ls : List Text). with_lines (i + 1 + 1) ls) (sym here.1) ∙ after in
         (ap (rule k) fields ∙ ap (λ m. rule m (fields_of line)) n ∙ value, sym next ∙ behind text i k n)
-
--- a step that finds no fault
-pub goes : {A B E : Type 0} (r : Result A E) (f : A → Result B E) (x : A) → r ≡ Ok x → (r >>= f) ≡ f x
-goes r f x e = ap (λ r. r >>= f) e
 
 -- what a rule gives for line k is what the reading gives there
 pub line_again : {A : Type 0} (rule : LineRule A) (text : List Text) (i k : ℕ) (x : A) → k ≡ i + 1 → rule k [] ≡ Err (fault.Line k) → rule k (fields_at text k) ≡ Ok x

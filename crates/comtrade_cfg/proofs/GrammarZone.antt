@@ -6,13 +6,13 @@ use Rattle.pq_words.specs.Text.{Text}
 use Rattle.pq_words.proofs.ReadingLemmas.{some_ok}
 use Rattle.pq_time.specs.Written.{code_of}
 use Rattle.comtrade_cfg.specs.declared.cfg.Zone.{Zone}
-use Rattle.comtrade_cfg.specs.declared.fault.CfgFault.TheVariants as fault
-use Rattle.comtrade_cfg.specs.Fields.{Ahead, on_line, field_or_fault, hexadecimal, leap_digit, leap_field, local_code_of}
+use Rattle.cfg_fields.specs.declared.fault.CfgFault.TheVariants as fault
+use Rattle.cfg_fields.specs.Fields.{Ahead, on_line, field_or_fault, hexadecimal, leap_digit, leap_field, local_code_of}
 use Rattle.comtrade_cfg.specs.CfgText.{time_code_line, time_quality_line, zone_lines}
 use Rattle.comtrade_cfg.specs.Grammar.{fields_at, AreZoneLines, HasZoneLines}
-use Rattle.comtrade_cfg.proofs.LinesRead.{from_bind, same_ok}
-use Rattle.comtrade_cfg.proofs.GrammarPlaces.{place, goes, line_found, line_again}
-use Rattle.comtrade_cfg.proofs.GrammarFields.{leap_found, leap_again}
+use Rattle.cfg_fields.proofs.ReadingLaws.{from_bind, same_ok, goes}
+use Rattle.comtrade_cfg.proofs.GrammarPlaces.{place, line_found, line_again}
+use Rattle.cfg_fields.proofs.GrammarFields.{leap_found, leap_again}
 
 -- ---- the two lines
 

@@ -1,24 +1,19 @@
-pub mod LineLemmas
 pub mod ChannelLemmas
 pub mod LinesRead
-pub mod WrittenFacts
 pub mod ConfigurationBounds
 pub mod PrintLemmas
 pub mod TwoIntervalsCfg
 mod StandardFacts
 mod OtherFacts
-pub mod ReadingSteps
 pub mod ValueLemmas
 pub mod ReadBackText
 pub mod CanonicalFacts
 pub mod ReadBackFacts
-pub mod ReadBackNumbers
 pub mod ReadBackMoments
 pub mod ReadBackRate
 pub mod ReadBackLines
 pub mod ReadBack
 pub mod GrammarPlaces
-pub mod GrammarFields
 pub mod GrammarLines
 pub mod GrammarZone
 pub mod GrammarFound

@@ -1,9 +1,7 @@
 -- What the lines of a text that says a configuration were read as, one after another.
-use Rattle.std.proofs.Common.{◌≡◌, ℕ, ℤ, Option, List, Result, Ok, ap, ◌∙◌}
+use Rattle.std.proofs.Common.{◌≡◌, ℕ, ℤ, Option, List, Ok}
 use Rattle.std.specs.Prelude.{◌==◌}
 use Rattle.pq_words.specs.Text.{Text}
-use Rattle.pq_words.specs.FirstFault.{◌>>=◌}
-use Rattle.pq_words.proofs.ReadingLemmas.{bind_ok}
 use Rattle.pq_time.specs.Moment.{utc_of}
 use Rattle.comtrade_cfg.specs.declared.cfg.Analogue.{Analogue}
 use Rattle.comtrade_cfg.specs.declared.cfg.StatusLine.{StatusLine}
@@ -13,7 +11,8 @@ use Rattle.comtrade_cfg.specs.declared.head.Station.{Station}
 use Rattle.comtrade_cfg.specs.declared.head.ChannelCounts.{ChannelCounts}
 use Rattle.comtrade_cfg.specs.declared.sampling.Sampling.{Sampling}
 use Rattle.comtrade_cfg.specs.Configuration.{Configuration}
-use Rattle.comtrade_cfg.specs.Fields.{Ahead, LineRule, on_line, next_line, fields_of}
+use Rattle.cfg_fields.specs.Fields.{Ahead, on_line, only_blank_lines}
+use Rattle.cfg_fields.proofs.ReadingLaws.{from_bind, same_ok}
 use Rattle.comtrade_cfg.specs.CfgText.{configuration_ahead, channel_lines, station_line, counts_line, analogue_line, status_line, frequency_line, rates_line, sampling_line, stamp_line, file_type_line, timemult_line, zone_lines, offset_of}
 
 -- what each line was read as, and what then lay ahead
@@ -42,6 +41,7 @@ pub record LinesRead (start : Ahead) (c : Configuration) : Type 0 where
   pub file_type_is : on_line file_type_line trigger.1 ≡ Ok file_type
   pub timemult_is : on_line timemult_line file_type.1 ≡ Ok timemult
   pub zone_is : zone_lines (station.0.revision == 2013) timemult.1 ≡ Ok zone
+  pub ended_is : only_blank_lines zone.1.number zone.1.lines ≡ Ok tt
   pub is : record {
     station = station.0.station;
     device = station.0.device;
@@ -57,14 +57,6 @@ pub record LinesRead (start : Ahead) (c : Configuration) : Type 0 where
     timemult = timemult.0;
     zone = zone.0;
   } ≡ c
-
--- two values that were given are one
-pub same_ok : {A E : Type 0} {x y : A} → ◌≡◌ {A = Result A E} (Ok x) (Ok y) → x ≡ y
-same_ok e = cc
-
--- a step that found no fault, for what is shown of its value and of what came after it
-pub from_bind : {A B E : Type 0} (r : Result A E) (f : A → Result B E) (y : B) → (r >>= f) ≡ Ok y → {P : Type 0} → ((x : A) → r ≡ Ok x → f x ≡ Ok y → P) → P
-from_bind r f y e g = let b = bind_ok r f y e in g b.0 b.1 b.2
 
 pub lines_read : (start : Ahead) (c : Configuration) → configuration_ahead start ≡ Ok c → LinesRead start c
 unfolding configuration_ahead
@@ -82,21 +74,4 @@ lines_read start c e =
     from_bind _ _ c after_file_type (λ timemult timemult_is after_timemult.
     from_bind _ _ c after_timemult (λ zone zone_is after_zone.
     from_bind _ _ c after_zone (λ ended ended_is after_ended.
-    record { station = station; counts = counts; analogue = analogue; status = status; lf = lf; rates = rates; sampling = sampling; first = first; trigger = trigger; file_type = file_type; timemult = timemult; zone = zone; station_is = station_is; counts_is = counts_is; analogue_is = analogue_is; status_is = status_is; lf_is = lf_is; rates_is = rates_is; sampling_is = sampling_is; first_is = first_is; trigger_is = trigger_is; file_type_is = file_type_is; timemult_is = timemult_is; zone_is = zone_is; is = same_ok after_ended })))))))))))))
-
--- a line was there, and its rule gave the value
-pub record LineRead {A : Type 0} (rule : LineRule A) (start : Ahead) (y : A × Ahead) : Type 0 where
-  pub line : Text
-  pub there : next_line start ≡ Ok (line, y.1)
-  pub value : rule start.number (fields_of line) ≡ Ok y.0
-
-pub line_read : {A : Type 0} (rule : LineRule A) (start : Ahead) (y : A × Ahead) → on_line rule start ≡ Ok y → LineRead rule start y
-line_read rule start y e =
-    let line = bind_ok _ _ y e in
-    let value = bind_ok _ _ y line.2 in
-    let same = same_ok value.2 in
-    record {
-      line = line.0.0;
-      there = line.1 ∙ ap (λ (z : _ × Ahead). Ok (line.0.0, z.1)) same;
-      value = value.1 ∙ ap (λ (z : _ × Ahead). Ok z.0) same;
-    }
+    record { station = station; counts = counts; analogue = analogue; status = status; lf = lf; rates = rates; sampling = sampling; first = first; trigger = trigger; file_type = file_type; timemult = timemult; zone = zone; station_is = station_is; counts_is = counts_is; analogue_is = analogue_is; status_is = status_is; lf_is = lf_is; rates_is = rates_is; sampling_is = sampling_is; first_is = first_is; trigger_is = trigger_is; file_type_is = file_type_is; timemult_is = timemult_is; zone_is = zone_is; ended_is = ended_is; is = same_ok after_ended })))))))))))))

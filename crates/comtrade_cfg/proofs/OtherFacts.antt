@@ -11,7 +11,7 @@ use Rattle.pq_time.specs.Moment.{written_moment}
 use Rattle.pq_time.specs.Printed.{date_shown}
 use Rattle.jiff_core.specs.Calendar.{days_from_civil, day_count, days_of_years, days_of_months}
 use Rattle.comtrade_cfg.specs.declared.selection.SelectFault.TheVariants as fault
-use Rattle.comtrade_cfg.specs.Fields.{text_field, number_field, position_field, decimal_text, decimal_field, channel_count, frequency_field, rate_field, samples_field, leap_field}
+use Rattle.cfg_fields.specs.Fields.{text_field, number_field, position_field, decimal_text, decimal_field, channel_count, frequency_field, rate_field, samples_field, leap_field}
 use Rattle.comtrade_cfg.specs.CfgText.{configuration_of, configuration_ahead, channel_lines, station_fields, analogue_fields, status_fields}
 use Rattle.comtrade_cfg.specs.Canonical.{canonical_text}
 use Rattle.comtrade_cfg.specs.Selecting.{coefficients_of, selected_of}

@@ -7,23 +7,24 @@ use Rattle.std.proofs.lemmas.Bool.{le-leb}
 use Rattle.jiff_core.proofs.SignedLemmas.{signed_arith}
 use Rattle.pq_words.specs.Text.{Text}
 use Rattle.pq_time.specs.Moment.{utc_of, written_of}
-use Rattle.comtrade_cfg.specs.declared.fault.CfgFault.TheVariants as fault
-use Rattle.comtrade_cfg.specs.declared.fault.Quantity.TheVariants as quantity
+use Rattle.cfg_fields.specs.declared.fault.CfgFault.TheVariants as fault
+use Rattle.cfg_fields.specs.declared.fault.Quantity.TheVariants as quantity
 use Rattle.comtrade_cfg.specs.Configuration.{Configuration}
-use Rattle.comtrade_cfg.specs.Fields.{Ahead, ahead_of, on_line, only_blank_lines}
+use Rattle.cfg_fields.specs.Fields.{Ahead, ahead_of, on_line, only_blank_lines}
 use Rattle.comtrade_cfg.specs.CfgText.{configuration_of, configuration_ahead, channel_lines, station_line, counts_line, analogue_line, status_line, frequency_line, rates_line, sampling_line, stamp_line, file_type_line, timemult_line, zone_lines, offset_of}
 use Rattle.comtrade_cfg.specs.Canonical.{row_of, rate_text, stamp_text, date_text, time_text, file_type_text, analogue_fields, status_fields, numbered_rows, zone_rows, canonical_lines, canonical_text, ReadsBack}
 use Rattle.comtrade_cfg.specs.CanonicalParts.{lines_text}
 use Rattle.pq_time.specs.Printed.{date_shown, time_shown}
 use Rattle.comtrade_cfg.proofs.LinesRead.{LinesRead}
-use Rattle.comtrade_cfg.proofs.ReadBackText.{IsFree, lines_back, row_free}
+use Rattle.comtrade_cfg.proofs.ReadBackText.{lines_back, row_free}
+use Rattle.cfg_fields.proofs.FieldTexts.{IsFree}
 use Rattle.comtrade_cfg.proofs.ReadBackFacts.{IsGood, configuration_good, IsGoodAnalogue, IsGoodStatus}
 use Rattle.comtrade_cfg.proofs.ReadBackLines.{then_ok, small_frequency, decimal_field_of, station_is_fields, station_back, counts_are_fields, counts_back, channels_back, channels_free, analogue_are_fields, analogue_value, status_are_fields, status_value, frequency_back, rates_back, sampling_are_fields, sampling_back, stamp_are_fields, stamp_back, file_type_is_field, file_type_back, timemult_back, zone_back, zone_free}
 
--- lines that were read one after another, with nothing behind them, say the configuration
-all_read : (start : Ahead) (c : Configuration) (r : LinesRead start c) → only_blank_lines r.zone.1.number r.zone.1.lines ≡ Ok tt → configuration_ahead start ≡ Ok c
+-- lines that were read one after another say the configuration
+all_read : (start : Ahead) (c : Configuration) → LinesRead start c → configuration_ahead start ≡ Ok c
 unfolding configuration_ahead
-all_read start c r ended =
+all_read start c r =
     then_ok (on_line station_line start) _ r.station _ r.station_is
     (then_ok (on_line counts_line r.station.1) _ r.counts _ r.counts_is
     (then_ok (channel_lines analogue_line 1 r.counts.0.analogue r.counts.1) _ r.analogue _ r.analogue_is
@@ -36,7 +37,7 @@ all_read start c r ended =
     (then_ok (on_line file_type_line r.trigger.1) _ r.file_type _ r.file_type_is
     (then_ok (on_line timemult_line r.file_type.1) _ r.timemult _ r.timemult_is
     (then_ok (zone_lines (r.station.0.revision == 2013) r.timemult.1) _ r.zone _ r.zone_is
-    (then_ok (only_blank_lines r.zone.1.number r.zone.1.lines) _ tt _ ended (ap Ok r.is)))))))))))))
+    (then_ok (only_blank_lines r.zone.1.number r.zone.1.lines) _ tt _ r.ended_is (ap Ok r.is)))))))))))))
 
 utc_again : (utc minutes : ℤ) → utc_of (written_of utc minutes) minutes ≡ utc
 utc_again utc minutes = omega (arith, signed_arith)
@@ -107,8 +108,9 @@ whole c g =
       file_type_is = file_type_back (n + 1 + 1 + 1 + 1 + 1) c.file_type type_rest;
       timemult_is = timemult_back (n + 1 + 1 + 1 + 1 + 1 + 1) c.timemult timemult_rest g.timemult;
       zone_is = zone.1;
+      ended_is = refl;
       is = same c;
-    }) refl
+    })
   where
     same : (c : Configuration) → record {
       station = c.station;

@@ -17,15 +17,16 @@ use Rattle.comtrade_cfg.specs.declared.cfg.Analogue.{Analogue}
 use Rattle.comtrade_cfg.specs.declared.cfg.StatusLine.{StatusLine}
 use Rattle.comtrade_cfg.specs.declared.cfg.Zone.{Zone}
 use Rattle.comtrade_cfg.specs.declared.head.Station.{Station}
-use Rattle.comtrade_cfg.specs.declared.fault.CfgFault.TheVariants as fault
-use Rattle.comtrade_cfg.specs.declared.fault.Unsupported.TheVariants as unsupported
+use Rattle.cfg_fields.specs.declared.fault.CfgFault.TheVariants as fault
+use Rattle.cfg_fields.specs.declared.fault.Unsupported.TheVariants as unsupported
 use Rattle.comtrade_cfg.specs.Configuration.{Configuration}
-use Rattle.comtrade_cfg.specs.Fields.{Ahead, LineRule, ahead_of, line_of, on_line, fields_of, text_field, number_field, position_field, decimal_text, decimal_field, field_or_fault, hexadecimal, leap_digit, leap_field, local_code_of}
+use Rattle.cfg_fields.specs.Fields.{Ahead, LineRule, ahead_of, line_of, on_line, fields_of, text_field, number_field, position_field, decimal_text, decimal_field, field_or_fault, hexadecimal, leap_digit, leap_field, local_code_of}
 use Rattle.comtrade_cfg.specs.CfgText.{IsConfiguration, channel_lines, station_line, station_fields, counts_line, analogue_line, analogue_fields, status_line, status_fields, frequency_line, rates_line, sampling_line, stamp_line, file_type_line, timemult_line, time_code_line, time_quality_line, zone_lines, offset_of}
-use Rattle.comtrade_cfg.proofs.ReadBackText.{IsFree, IsField}
+use Rattle.cfg_fields.proofs.FieldTexts.{IsFree, IsField}
 use Rattle.comtrade_cfg.proofs.CanonicalFacts.{fields_are, lines_are}
-use Rattle.comtrade_cfg.proofs.LinesRead.{LinesRead, line_read, from_bind, same_ok}
-use Rattle.comtrade_cfg.proofs.WrittenFacts.{IsClockTime, date_civil, time_clock, code_small}
+use Rattle.comtrade_cfg.proofs.LinesRead.{LinesRead}
+use Rattle.cfg_fields.proofs.ReadingLaws.{line_read, from_bind, same_ok}
+use Rattle.cfg_fields.proofs.WrittenFacts.{IsClockTime, date_civil, time_clock, code_small}
 use Rattle.comtrade_cfg.proofs.ConfigurationBounds.{IsCivil, civil, IsBounded, bounded, from_text, stamp_read, quality_small}
 
 -- ---- one line

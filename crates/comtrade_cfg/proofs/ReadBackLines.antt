@@ -16,17 +16,18 @@ use Rattle.comtrade_cfg.specs.declared.cfg.StatusLine.{StatusLine}
 use Rattle.comtrade_cfg.specs.declared.cfg.Zone.{Zone}
 use Rattle.comtrade_cfg.specs.declared.cfg.FileType.{FileType}
 use Rattle.comtrade_cfg.specs.declared.cfg.FileType.TheVariants.{Binary}
-use Rattle.comtrade_cfg.specs.declared.fault.CfgFault.TheVariants as fault
-use Rattle.comtrade_cfg.specs.declared.fault.Quantity.{Quantity}
-use Rattle.comtrade_cfg.specs.declared.fault.Quantity.TheVariants as quantity
-use Rattle.comtrade_cfg.specs.declared.fault.Unsupported.TheVariants as unsupported
-use Rattle.comtrade_cfg.specs.Fields.{Reading, LineRule, on_line, text_field, number_field, position_field, decimal_text, decimal_field, field_or_fault, channel_count, lettered, frequency_field, rate_field, rate_of, is_rate, samples_field, moment_fields, hexadecimal, leap_digit, leap_field, local_code_of}
+use Rattle.cfg_fields.specs.declared.fault.CfgFault.TheVariants as fault
+use Rattle.cfg_fields.specs.declared.fault.Quantity.{Quantity}
+use Rattle.cfg_fields.specs.declared.fault.Quantity.TheVariants as quantity
+use Rattle.cfg_fields.specs.declared.fault.Unsupported.TheVariants as unsupported
+use Rattle.cfg_fields.specs.Fields.{Reading, LineRule, on_line, text_field, number_field, position_field, decimal_text, decimal_field, field_or_fault, channel_count, lettered, frequency_field, rate_field, rate_of, is_rate, samples_field, moment_fields, hexadecimal, leap_digit, leap_field, local_code_of}
 use Rattle.comtrade_cfg.specs.CfgText.{channel_lines, station_line, station_fields, counts_line, analogue_line, analogue_fields as analogue_read, status_line, status_fields as status_read, frequency_line, rates_line, sampling_line, stamp_line, file_type_line, timemult_line, time_code_line, time_quality_line, zone_lines}
 use Rattle.comtrade_cfg.specs.Canonical.{row_of, rate_text, stamp_text, date_text, time_text, code_text, hexadecimal_text, file_type_text, analogue_fields, status_fields, numbered_rows, zone_rows}
 use Rattle.comtrade_cfg.specs.CanonicalParts.{local_code_text}
-use Rattle.comtrade_cfg.proofs.ReadBackText.{IsFree, IsField, fields_back, row_free}
+use Rattle.comtrade_cfg.proofs.ReadBackText.{fields_back, row_free}
+use Rattle.cfg_fields.proofs.FieldTexts.{IsFree, IsField}
 use Rattle.comtrade_cfg.proofs.ReadBackFacts.{IsText, IsDecimal, IsGoodAnalogue, IsGoodStatus, IsGoodZone, HasZone, IsWritten}
-use Rattle.comtrade_cfg.proofs.ReadBackNumbers.{number_back, lettered_back, plain_field, plain_decimal, plain_joined}
+use Rattle.cfg_fields.proofs.ReadBackNumbers.{number_back, lettered_back, plain_field, plain_decimal, plain_joined}
 use Rattle.comtrade_cfg.proofs.ReadBackMoments.{moment_back, plain_date, plain_time, code_back}
 use Rattle.comtrade_cfg.proofs.ReadBackRate.{rate_back, plain_rate, hexadecimal_back, plain_hexadecimal, leap_back, local_back, plain_code, plain_local}
 

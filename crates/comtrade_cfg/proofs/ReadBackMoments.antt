@@ -17,10 +17,10 @@ use Rattle.pq_time.specs.Moment.{moment_at, nanoseconds_in_day, day_number, mome
 use Rattle.pq_time.specs.Printed.{date_shown, time_shown, date_from_year, since_1600, hms_text}
 use Rattle.pq_time.proofs.DayLemmas.{shows_day}
 use Rattle.comtrade_cfg.specs.Canonical.{date_text, time_text, fraction_text, offset_text, code_text}
-use Rattle.comtrade_cfg.proofs.WrittenFacts.{IsClockTime}
+use Rattle.cfg_fields.proofs.WrittenFacts.{IsClockTime}
 use Rattle.comtrade_cfg.proofs.ConfigurationBounds.{IsCivil, civil, date_in, day_between, nanoseconds_bound}
-use Rattle.comtrade_cfg.proofs.ReadBackText.{split_free, split_at, free_joined}
-use Rattle.comtrade_cfg.proofs.ReadBackNumbers.{padded_back, padded_within, padded_digits, decimal_within, decimal_digits, digits_free, IsPlain, plain_padded, plain_joined}
+use Rattle.cfg_fields.proofs.FieldTexts.{split_free, split_at, free_joined}
+use Rattle.cfg_fields.proofs.ReadBackNumbers.{padded_back, padded_within, padded_digits, decimal_within, decimal_digits, digits_free, IsPlain, plain_padded, plain_joined}
 
 -- ---- dates
 

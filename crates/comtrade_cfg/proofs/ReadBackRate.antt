@@ -23,9 +23,9 @@ use Rattle.pq_base.proofs.DigitsLemmas.{digits_joined}
 use Rattle.pq_time.specs.Written.{code_of}
 use Rattle.comtrade_cfg.specs.Canonical.{rate_text, hexadecimal_text, offset_text, code_text}
 use Rattle.comtrade_cfg.specs.CanonicalParts.{local_code_text}
-use Rattle.comtrade_cfg.specs.Fields.{hexadecimal, leap_digit, local_code_of}
-use Rattle.comtrade_cfg.proofs.ReadBackText.{split_free, split_at}
-use Rattle.comtrade_cfg.proofs.ReadBackNumbers.{digits_back, decimal_digits, decimal_within, padded_digits, padded_after, digits_free, is_plain, IsPlain, plain_joined, plain_decimal, plain_padded}
+use Rattle.cfg_fields.specs.Fields.{hexadecimal, leap_digit, local_code_of}
+use Rattle.cfg_fields.proofs.FieldTexts.{split_free, split_at}
+use Rattle.cfg_fields.proofs.ReadBackNumbers.{digits_back, decimal_digits, decimal_within, padded_digits, padded_after, digits_free, is_plain, IsPlain, plain_joined, plain_decimal, plain_padded}
 use Rattle.comtrade_cfg.proofs.ReadBackMoments.{BeginsWithDigit, decimal_begins, code_back}
 
 -- ---- decimals

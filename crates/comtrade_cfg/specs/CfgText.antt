@@ -16,12 +16,12 @@ use Rattle.comtrade_cfg.specs.declared.cfg.Cfg.{Cfg}
 use Rattle.comtrade_cfg.specs.declared.head.Station.{Station}
 use Rattle.comtrade_cfg.specs.declared.head.ChannelCounts.{ChannelCounts}
 use Rattle.comtrade_cfg.specs.declared.sampling.Sampling.{Sampling}
-use Rattle.comtrade_cfg.specs.declared.fault.CfgFault.{CfgFault}
-use Rattle.comtrade_cfg.specs.declared.fault.CfgFault.TheVariants as fault
-use Rattle.comtrade_cfg.specs.declared.fault.Quantity.TheVariants as quantity
-use Rattle.comtrade_cfg.specs.declared.fault.Unsupported.TheVariants as unsupported
+use Rattle.cfg_fields.specs.declared.fault.CfgFault.{CfgFault}
+use Rattle.cfg_fields.specs.declared.fault.CfgFault.TheVariants as fault
+use Rattle.cfg_fields.specs.declared.fault.Quantity.TheVariants as quantity
+use Rattle.cfg_fields.specs.declared.fault.Unsupported.TheVariants as unsupported
 use Rattle.comtrade_cfg.specs.Configuration.{Configuration, view}
-use Rattle.comtrade_cfg.specs.Fields.{Ahead, ahead_of, Reading, on_line, only_blank_lines, field_or_fault, text_field, number_field, position_field, decimal_text, channel_count, frequency_field, rate_field, samples_field, moment_fields, hexadecimal, leap_field, local_code_of}
+use Rattle.cfg_fields.specs.Fields.{Ahead, ahead_of, Reading, on_line, only_blank_lines, field_or_fault, text_field, number_field, position_field, decimal_text, channel_count, frequency_field, rate_field, samples_field, moment_fields, hexadecimal, leap_field, local_code_of}
 
 -- the three fields of a station line: station, device, revision
 unfoldable pub station_fields : ℕ → (station device revision : Text) → Result Station CfgFault

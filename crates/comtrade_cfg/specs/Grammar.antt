@@ -1,27 +1,24 @@
 -- Which texts are cfgs and what they say, line by line, apart from any order of reading (C37.111, configuration file).
-use Rattle.std.specs.Prelude.{◌≡◌, ℕ, ◌+◌, ◌-◌, ◌*◌, ◌^◌, ◌≤◌, ◌⊎◌, ◌==◌, List, [], ◌∷◌, length, ℤ, pos, Option, Some, None, option_map, slice_get, Ok, codes, IsTrue, IsFalse, IsSome}
+use Rattle.std.specs.Prelude.{◌≡◌, ℕ, ◌+◌, ◌-◌, ◌*◌, ◌^◌, ◌≤◌, ◌⊎◌, List, [], ◌∷◌, length, ℤ, pos, Option, Some, None, slice_get, Ok, codes, IsTrue, IsSome}
 use Rattle.std.specs.Option.{option_map_or}
 use Rattle.std.specs.Str.{str_eq_ignore_ascii_case}
 use Rattle.std.specs.Str.Lines.{lines}
-use Rattle.std.specs.List.{list_any, AllByRecursion}
+use Rattle.std.specs.List.{AllByRecursion}
 use Rattle.pq_words.specs.Text.{Text, number, is_all_blank}
-use Rattle.pq_base.specs.Decimal.{decimal_of, shifted}
+use Rattle.pq_base.specs.Decimal.{decimal_of}
 use Rattle.pq_time.specs.Written.{CivilDate, TimeOfDay, date_of, time_of, code_of}
 use Rattle.pq_time.specs.Moment.{moment_at, written_of}
 use Rattle.comtrade_cfg.specs.declared.cfg.Analogue.{Analogue}
 use Rattle.comtrade_cfg.specs.declared.cfg.StatusLine.{StatusLine}
 use Rattle.comtrade_cfg.specs.declared.cfg.Zone.{Zone}
 use Rattle.comtrade_cfg.specs.Configuration.{Configuration}
-use Rattle.comtrade_cfg.specs.Fields.{fields_of, lettered, hexadecimal, leap_digit, local_code_of, is_rate}
+use Rattle.cfg_fields.specs.FieldGrammar.{IsTextField, IsMillionths}
+use Rattle.cfg_fields.specs.Fields.{fields_of, lettered, hexadecimal, leap_digit, local_code_of, is_rate}
 use Rattle.comtrade_cfg.specs.CfgText.{offset_of, configuration_of}
 
 -- the fields of line k, from 1; none where there is no such line
 abbrev pub fields_at : List Text → ℕ → List Text
 fields_at lines k = option_map_or fields_of (slice_get lines (k - 1)) []
-
--- a text holds no CR
-abbrev pub IsTextField : Text → Type 0
-IsTextField text = IsFalse (list_any (λ c. c == 13) text)
 
 -- station, device, revision
 pub record IsStationLine (fields : List Text) (c : Configuration) : Type 0 where
@@ -57,10 +54,6 @@ pub record IsStatusLine (position : ℕ) (fields : List Text) (ch : StatusLine) 
   pub fields_are : fields ≡ dn ∷ ch.id ∷ ch.phase ∷ ch.component ∷ ch.normal ∷ []
   pub dn_is : number dn ≡ Some position
   pub texts : AllByRecursion IsTextField (ch.id ∷ ch.phase ∷ ch.component ∷ ch.normal ∷ [])
-
--- a Decimal that is z after rounding to millionths
-abbrev pub IsMillionths : Text → ℤ → Type 0
-IsMillionths text z = option_map (λ x. shifted x 6) (decimal_of text) ≡ Some z
 
 -- lf
 pub record IsFrequencyLine (fields : List Text) (lf : ℕ) : Type 0 where

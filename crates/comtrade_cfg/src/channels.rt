@@ -1,14 +1,13 @@
 // The channel lines.
 ghost use Rattle.std.specs.Prelude.{◌≡◌, ◌<◌, ◌≤◌, [], length, slice_index_or, map};
-ghost use Rattle.comtrade_cfg.specs.Cursor.{ahead};
-ghost use Rattle.comtrade_cfg.specs.Fields.{Gives, on_line};
+ghost use Rattle.cfg_fields.specs.Cursor.{ahead};
+ghost use Rattle.cfg_fields.specs.Fields.{Gives, on_line};
 ghost use Rattle.comtrade_cfg.specs.CfgText.{analogue_line, analogue_fields, status_line, status_fields, channel_lines};
 
 use crate::cfg::{Analogue, StatusLine};
-use crate::cursor::Cursor;
-use crate::fault::CfgFault;
-use crate::field::{decimal_text, position_field, text_field};
-use crate::lines::{fields_of, next_line};
+use cfg_fields::{
+    CfgFault, Cursor, decimal_text, fields_of, next_line, position_field, text_field,
+};
 use std::alloc::Global;
 
 // An, id, phase, component, unit, a, b, skew, min, max, primary, secondary and PS

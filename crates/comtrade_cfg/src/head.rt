@@ -1,13 +1,13 @@
 // The station line and the numbers of channels line.
 ghost use Rattle.std.specs.Prelude.{◌≡◌, ◌≤◌, ◌⊎◌, map, IfOk};
-ghost use Rattle.comtrade_cfg.specs.Cursor.{ahead};
-ghost use Rattle.comtrade_cfg.specs.Fields.{Gives, on_line};
+ghost use Rattle.cfg_fields.specs.Cursor.{ahead};
+ghost use Rattle.cfg_fields.specs.Fields.{Gives, on_line};
 ghost use Rattle.comtrade_cfg.specs.CfgText.{station_line, station_fields, counts_line};
 
-use crate::cursor::Cursor;
-use crate::fault::{CfgFault, Quantity, Unsupported};
-use crate::field::{channel_count, number_field, position_field, text_field};
-use crate::lines::{fields_of, next_line};
+use cfg_fields::{
+    CfgFault, Cursor, Quantity, Unsupported, channel_count, fields_of, next_line, number_field,
+    position_field, text_field,
+};
 use pq_base::Text;
 use std::alloc::Global;
 

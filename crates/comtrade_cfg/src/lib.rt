@@ -2,22 +2,17 @@
 #![tactic(auto)]
 
 pub use cfg::{Analogue, Cfg, FileType, StatusLine, Zone};
+pub use cfg_fields::{CfgFault, Quantity, Unsupported};
 pub use choosing::select;
-pub use fault::{CfgFault, Quantity, Unsupported};
 pub use print::print_cfg;
 pub use reading::read_cfg;
 pub use selection::{SelectFault, Selection};
 pub use voltage::Coefficients;
 
-mod blank;
 mod cfg;
 mod channels;
 mod choosing;
-mod cursor;
-mod fault;
-mod field;
 mod head;
-mod lines;
 mod print;
 mod print_channels;
 mod print_number;

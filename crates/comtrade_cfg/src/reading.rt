@@ -1,24 +1,22 @@
 // The whole of a cfg.
 ghost use Rattle.comtrade_cfg.specs.Configuration.{Configuration, view};
-ghost use Rattle.comtrade_cfg.specs.Cursor.{ahead};
-ghost use Rattle.comtrade_cfg.specs.Fields.{Gives};
+ghost use Rattle.cfg_fields.specs.Cursor.{ahead};
+ghost use Rattle.cfg_fields.specs.Fields.{Gives};
 ghost use Rattle.comtrade_cfg.specs.CfgText.{GivesCfg, configuration_ahead, offset_of};
 ghost use Rattle.std.specs.Prelude.{◌≡◌, IfErr, IfOk};
 ghost use Rattle.comtrade_cfg.specs.Grammar.{IsCfgText};
-ghost use Rattle.comtrade_cfg.specs.declared.fault.CfgFault.TheVariants as fault;
+ghost use Rattle.cfg_fields.specs.declared.fault.CfgFault.TheVariants as fault;
 ghost use Rattle.std.specs.Option.{ForSome};
 ghost use Rattle.pq_words.specs.Magnitude.{IsWithin};
 
 use crate::cfg::{Cfg, Zone};
 use crate::channels::{read_analogue, read_status};
-use crate::cursor::Cursor;
-use crate::fault::{CfgFault, Quantity};
 use crate::head::{read_counts, read_station};
-use crate::lines::only_blank_lines;
 use crate::sampling::{
     read_file_type, read_frequency, read_rates, read_sampling, read_stamp, read_timemult,
 };
 use crate::zone::read_zone;
+use cfg_fields::{CfgFault, Cursor, Quantity, only_blank_lines};
 use pq_time::to_utc;
 use std::alloc::Global;
 

@@ -1,17 +1,15 @@
 // How the samples were taken: from the line frequency to the multiplication factor of time stamps.
 ghost use Rattle.std.specs.Prelude.{◌≡◌, ◌≤◌, ◌*◌, ◌^◌, ◌⊎◌, map, IfOk};
 ghost use Rattle.pq_words.specs.Magnitude.{IsWithin};
-ghost use Rattle.comtrade_cfg.specs.Cursor.{ahead};
-ghost use Rattle.comtrade_cfg.specs.Fields.{Gives, on_line};
+ghost use Rattle.cfg_fields.specs.Cursor.{ahead};
+ghost use Rattle.cfg_fields.specs.Fields.{Gives, on_line};
 ghost use Rattle.comtrade_cfg.specs.CfgText.{frequency_line, rates_line, sampling_line, stamp_line, file_type_line, is_other_file_type, timemult_line};
 
 use crate::cfg::FileType;
-use crate::cursor::Cursor;
-use crate::fault::{CfgFault, Unsupported};
-use crate::field::{
-    decimal_text, frequency_field, is_word, moment_fields, number_field, rate_field, samples_field,
+use cfg_fields::{
+    CfgFault, Cursor, Unsupported, decimal_text, fields_of, frequency_field, is_word,
+    moment_fields, next_line, number_field, rate_field, samples_field,
 };
-use crate::lines::{fields_of, next_line};
 use pq_base::Text;
 use std::alloc::Global;
 

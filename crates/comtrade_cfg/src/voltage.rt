@@ -3,7 +3,7 @@ ghost use Rattle.std.specs.Prelude.{◌≡◌, ◌≤◌, ◌^◌, ◌+◌, ◌*
 ghost use Rattle.comtrade_cfg.specs.Selecting.{unit_power, picovolts, coefficients_of, is_within_value_limit, is_voltage_channel};
 
 use crate::cfg::Analogue;
-use crate::field::is_word;
+use cfg_fields::is_word;
 use pq_base::read_decimal;
 
 const MOST_PICOVOLTS: u128 = 10_000_000_000_000_000_000;

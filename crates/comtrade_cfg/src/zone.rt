@@ -2,64 +2,14 @@
 ghost use Rattle.std.specs.Prelude.{◌≡◌, ◌==◌, map, IfOk, IfSome};
 ghost use Rattle.std.specs.Option.{ForSome};
 ghost use Rattle.pq_words.specs.Magnitude.{IsWithin};
-ghost use Rattle.comtrade_cfg.specs.Cursor.{ahead};
-ghost use Rattle.comtrade_cfg.specs.Fields.{Gives, on_line, hexadecimal, leap_digit, leap_field, local_code_of};
+ghost use Rattle.cfg_fields.specs.Cursor.{ahead};
+ghost use Rattle.cfg_fields.specs.Fields.{Gives, on_line, hexadecimal, leap_digit, leap_field, local_code_of};
 ghost use Rattle.comtrade_cfg.specs.CfgText.{time_code_line, time_quality_line, zone_lines};
 
 use crate::cfg::Zone;
-use crate::cursor::Cursor;
-use crate::fault::{CfgFault, Unsupported};
-use crate::field::is_word;
-use crate::lines::{fields_of, next_line};
+use cfg_fields::{CfgFault, Cursor, fields_of, hexadecimal, leap_field, local_code, next_line};
 use pq_time::read_code;
 use std::alloc::Global;
-
-// One hexadecimal digit.
-fn hexadecimal(text: &[u8]) -> Option<u8>
-    ensures { result ≡ hexadecimal text.now }
-{
-    match text {
-        [digit @ b'0'..=b'9'] => Some(*digit - b'0'),
-        [digit @ b'A'..=b'F'] => Some(*digit - b'A' + 10),
-        [digit @ b'a'..=b'f'] => Some(*digit - b'a' + 10),
-        _ => None,
-    }
-}
-
-// One digit from 0 to 3.
-fn leap_digit(text: &[u8]) -> Option<u8>
-    ensures { result ≡ leap_digit text.now }
-{
-    match text {
-        [digit @ b'0'..=b'3'] => Some(*digit - b'0'),
-        _ => None,
-    }
-}
-
-// The leap second digit. A recording that announces a leap second, by 1 or 2, is unsupported.
-#[tactic(auto, unfolding(crate::specs::Fields::leap_field))]
-fn leap_field(line: u32, field: u32, text: &[u8]) -> Result<u8, CfgFault>
-    ensures { Gives (λ n. n) result (leap_field line field text.now) }
-{
-    let leap = leap_digit(text).ok_or(CfgFault::Field { line, field })?;
-    if leap != 0 && leap != 3 {
-        return Err(CfgFault::Unsupported {
-            what: Unsupported::LeapSecond,
-            line,
-        });
-    }
-    Ok(leap)
-}
-
-// A time code, or `x`, which says that there is none.
-fn local_code(text: &[u8]) -> Option<Option<i32>>
-    ensures { result ≡ local_code_of text.now }
-{
-    if is_word(text, b"x") {
-        return Some(None);
-    }
-    Some(Some(read_code(text)?))
-}
 
 // time_code and local_code, in minutes
 fn codes_of(line: u32, fields: &[&[u8]]) -> Result<(i32, Option<i32>), CfgFault>

@@ -1,10 +1,8 @@
 -- The recording of one channel: what a configuration, its selection and a dat make of it, and that it is one.
-use Rattle.std.proofs.Common.{◌≡◌, ◌⊎◌, inl, inr, ◌∙◌, ℕ, zero, suc, ◌+◌, ◌*◌, ◌^◌, ◌<◌, ◌≤◌, List, [], ◌∷◌, length, refl, sym, ap, subst, arith, rules, Result, Ok, Err, ℤ}
+use Rattle.std.proofs.Common.{◌≡◌, ◌⊎◌, inl, inr, ◌∙◌, ℕ, ◌^◌, ◌<◌, ◌≤◌, List, [], ◌∷◌, length, refl, sym, ap, subst, arith, rules, Result, Ok, Err, ℤ}
 use Rattle.std.proofs.lemmas.List.{length-map}
 use Rattle.std.specs.List.{All}
 use Rattle.comtrade_cfg.specs.Configuration.{Configuration}
-use Rattle.comtrade_cfg.specs.Selecting.{Selected}
-use Rattle.comtrade_cfg.specs.declared.cfg.Analogue.{Analogue}
 use Rattle.comtrade_cfg.specs.declared.voltage.Coefficients.{Coefficients}
 use Rattle.comtrade_cfg.proofs.ConfigurationBounds.{IsBounded}
 use Rattle.pq_base.specs.Recorded.{IsRecording, Recorded, samples_at}
@@ -18,7 +16,6 @@ use Rattle.pq_run.proofs.SampleLemmas.{unless_ok}
 use Rattle.pq_run.proofs.SelectionLemmas.{IsOneChannel}
 use Rattle.pq_words.proofs.StepLaws.{length_numbers}
 use Rattle.pq_words.specs.Steps.{numbers_below}
-use Rattle.pq_words.specs.FirstFault.{GivesUnless}
 use Rattle.pq_words.specs.Magnitude.{IsWithin}
 use Rattle.pq_words.specs.Text.{Text}
 

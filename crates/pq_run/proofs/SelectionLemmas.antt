@@ -1,21 +1,18 @@
 -- What a cfg that is measured says: one channel, which is selected and within the limit.
-use Rattle.std.proofs.Common.{◌≡◌, ◌∙◌, ℕ, Bool, true, false, List, [], ◌∷◌, length, refl, sym, ap, subst, arith, Some, None, Result, Ok, Err, cond}
-use Rattle.std.specs.Prelude.{is_some, ◌&&◌, nat_eq}
+use Rattle.std.proofs.Common.{◌≡◌, ◌∙◌, Bool, true, false, List, [], ◌∷◌, length, refl, sym, subst, arith, None, Result, Ok, Err, cond}
+use Rattle.std.specs.Prelude.{is_some, nat_eq}
 use Rattle.std.proofs.lemmas.Bool.{and_parts, eqb-true}
 use Rattle.comtrade_cfg.specs.CfgText.{IsConfiguration, configuration_of}
 use Rattle.comtrade_cfg.specs.Configuration.{Configuration}
 use Rattle.comtrade_cfg.specs.Selecting.{Selected, is_within_value_limit, selected_of, unit_power}
 use Rattle.comtrade_cfg.specs.declared.cfg.Analogue.{Analogue}
 use Rattle.comtrade_cfg.specs.declared.cfg.StatusLine.{StatusLine}
-use Rattle.comtrade_cfg.specs.declared.fault.CfgFault.{CfgFault}
-use Rattle.comtrade_cfg.specs.declared.fault.CfgFault.TheVariants as cfg_fault
-use Rattle.comtrade_cfg.specs.declared.selection.SelectFault.{SelectFault}
 use Rattle.comtrade_cfg.specs.declared.selection.SelectFault.TheVariants as select_fault
 use Rattle.pq_run.specs.Check.{cfg_refusal}
 use Rattle.pq_run.specs.Intervals.{IsMeasured, Measurement, has_one_channel, measured_of, or_refused, select_refusal}
 use Rattle.pq_run.specs.declared.status.Status.{Status}
 use Rattle.pq_words.proofs.ReadingLemmas.{bind_ok, provided_ok}
-use Rattle.pq_words.specs.FirstFault.{◌>>=◌, provided}
+use Rattle.pq_words.specs.FirstFault.{provided}
 
 -- a configuration of one channel, which is selected alone and is within the limit
 pub record IsOneChannel (m : Measurement) : Type 0 where

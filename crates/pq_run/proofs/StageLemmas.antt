@@ -1,14 +1,13 @@
 -- The stages of a top call: what holds of a later part holds of the whole.
-use Rattle.std.proofs.Common.{◌≡◌, ℕ, ◌+◌, ◌-◌, ◌*◌, ◌^◌, ◌<◌, ◌≤◌, min, true, length, Option, Some, None, ◌⊎◌, inl, inr, refl, sym, subst, arith, ◌++◌, [], cond, Bool, false, nat_lt}
+use Rattle.std.proofs.Common.{◌≡◌, ℕ, ◌≤◌, true, length, Option, Some, None, inl, refl, sym, subst, arith, []}
 use Rattle.std.proofs.KnownBytes.{Appends-nil}
-use Rattle.std.proofs.lemmas.Bool.{cases_lt}
 use Rattle.std.proofs.lemmas.Bool.Decides.{nat_tests}
 use Rattle.std.specs.Io.KnownBytes.{Appends}
 use Rattle.std.specs.Option.{IfSome}
 use Rattle.std.specs.Prelude.{nat_le}
 use Rattle.pq_base.specs.Causes.{Rose}
 use Rattle.pq_base.specs.Outside.{Files, Holds}
-use Rattle.pq_run.specs.TopCall.{Call, HasTaken, HasTakenFront, HasTakenNothing, IsComplete, IsExplained, IsOutOfMemory, IsTopCall, OfOutcome, OfVerdict}
+use Rattle.pq_run.specs.TopCall.{Call, HasTakenFront, HasTakenNothing, IsExplained, IsTopCall, OfOutcome}
 use Rattle.pq_run.specs.Verdict.{Asks, Course, Job, Outcome, Refused, verdict, with_file}
 use Rattle.pq_run.specs.declared.status.Status.{Status}
 use Rattle.pq_run.specs.declared.status.Status.TheVariants as status

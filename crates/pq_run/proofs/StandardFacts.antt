@@ -1,9 +1,9 @@
 -- Worked values, so that a wrong rule in the specs does not check.
-use Rattle.std.proofs.Common.{◌≡◌, [], ◌∷◌, ◌++◌, map, replicate, refl, pos, negsuc, neg_ℤ, true, false, None, Some, Ok, Err}
+use Rattle.std.proofs.Common.{◌≡◌, [], ◌∷◌, ◌++◌, map, replicate, refl, pos, negsuc, true, false, Ok, Err}
 use Rattle.std.specs.Fmt.{digits}
 use Rattle.std.specs.Prelude.{codes, slice_set}
-use Rattle.comtrade_cfg.specs.declared.fault.Quantity.TheVariants as quantity
-use Rattle.comtrade_cfg.specs.declared.fault.Unsupported.TheVariants as unsupported
+use Rattle.cfg_fields.specs.declared.fault.Quantity.TheVariants as quantity
+use Rattle.cfg_fields.specs.declared.fault.Unsupported.TheVariants as unsupported
 use Rattle.comtrade_cfg.specs.declared.voltage.Coefficients.{Coefficients}
 use Rattle.event_detect.specs.Flag.{is_touched}
 use Rattle.event_detect.specs.Threshold.{class_of, limits_of}

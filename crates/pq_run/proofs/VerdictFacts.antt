@@ -1,13 +1,13 @@
 -- Worked verdicts: refusals in their order, and jobs.
 use Rattle.std.proofs.Common.{◌≡◌, List, [], ◌∷◌, ◌++◌, map, replicate, refl, Option, None, Some}
 use Rattle.std.specs.Fmt.{digits}
-use Rattle.std.specs.Prelude.{codes, decimal, slice_set}
+use Rattle.std.specs.Prelude.{codes, slice_set}
 use Rattle.comtrade_cfg.proofs.TwoIntervalsCfg.{with_line_ends}
 use Rattle.comtrade_cfg.specs.CfgText.{analogue_fields, channel_lines, configuration_ahead, configuration_of, station_fields, status_fields}
-use Rattle.comtrade_cfg.specs.Fields.{channel_count, decimal_field, decimal_text, frequency_field, leap_field, number_field, position_field, rate_field, samples_field, text_field}
+use Rattle.cfg_fields.specs.Fields.{channel_count, decimal_field, decimal_text, frequency_field, leap_field, number_field, position_field, rate_field, samples_field, text_field}
 use Rattle.comtrade_cfg.specs.Selecting.{selected_of}
-use Rattle.comtrade_cfg.specs.declared.fault.Quantity.TheVariants as quantity
-use Rattle.comtrade_cfg.specs.declared.fault.Unsupported.TheVariants as unsupported
+use Rattle.cfg_fields.specs.declared.fault.Quantity.TheVariants as quantity
+use Rattle.cfg_fields.specs.declared.fault.Unsupported.TheVariants as unsupported
 use Rattle.event_detect.specs.VoltageEvent.{event_from, events, extents}
 use Rattle.half_cycle.specs.HalfCycleWindow.{windows, windows_over}
 use Rattle.jiff_core.specs.Calendar.{day_count, days_from_civil, days_of_months, days_of_years}

@@ -3,9 +3,9 @@ use Rattle.std.specs.Prelude.{Result, Ok, Err}
 use Rattle.comtrade_cfg.specs.Canonical.{canonical_text}
 use Rattle.comtrade_cfg.specs.CfgText.{configuration_of}
 use Rattle.comtrade_cfg.specs.Configuration.{Configuration}
-use Rattle.comtrade_cfg.specs.declared.fault.CfgFault.{CfgFault}
-use Rattle.comtrade_cfg.specs.declared.fault.CfgFault.TheVariants as fault
-use Rattle.comtrade_cfg.specs.declared.fault.Quantity.TheVariants as quantity
+use Rattle.cfg_fields.specs.declared.fault.CfgFault.{CfgFault}
+use Rattle.cfg_fields.specs.declared.fault.CfgFault.TheVariants as fault
+use Rattle.cfg_fields.specs.declared.fault.Quantity.TheVariants as quantity
 use Rattle.pq_run.specs.Verdict.{Refused, Job, Course, Ends, Asks, with_file}
 use Rattle.pq_run.specs.declared.status.Status.{Status}
 use Rattle.pq_run.specs.declared.status.Status.TheVariants as status

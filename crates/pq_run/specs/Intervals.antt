@@ -3,8 +3,8 @@ use Rattle.std.specs.Prelude.{◌≡◌, ℕ, Bool, ◌&&◌, ◌==◌, length, 
 use Rattle.comtrade_cfg.specs.CfgText.{configuration_of}
 use Rattle.comtrade_cfg.specs.Configuration.{Configuration, view}
 use Rattle.comtrade_cfg.specs.Selecting.{Selected, seen, selected_of}
-use Rattle.comtrade_cfg.specs.declared.fault.Quantity.TheVariants as quantity
-use Rattle.comtrade_cfg.specs.declared.fault.Unsupported.TheVariants as unsupported
+use Rattle.cfg_fields.specs.declared.fault.Quantity.TheVariants as quantity
+use Rattle.cfg_fields.specs.declared.fault.Unsupported.TheVariants as unsupported
 use Rattle.comtrade_cfg.specs.declared.selection.SelectFault.{SelectFault}
 use Rattle.comtrade_cfg.specs.declared.selection.SelectFault.TheVariants as select_fault
 use Rattle.pq_base.specs.Recorded.{Recorded}

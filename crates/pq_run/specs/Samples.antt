@@ -1,5 +1,5 @@
 -- The subject: the samples that a dat gives for a configuration and a selection, or its first fault (C37.111, binary data record; the rounding: profile).
-use Rattle.std.specs.Prelude.{ℕ, zero, suc, ◌+◌, ◌-◌, ◌*◌, Bool, nat_le, List, length, map, find, ℤ, pos, neg_ℤ, Option, Some, None, slice_get, Result, Ok, Err}
+use Rattle.std.specs.Prelude.{ℕ, zero, suc, ◌+◌, ◌-◌, ◌*◌, nat_le, List, length, map, find, ℤ, pos, neg_ℤ, Option, Some, None, slice_get, Result, Ok, Err}
 use Rattle.std.specs.Option.{option_map_or}
 use Rattle.std.specs.Ordering.{int_eq}
 use Rattle.comtrade_cfg.specs.Configuration.{Configuration}

@@ -2,12 +2,12 @@
 use Rattle.std.specs.Prelude.{ℕ, ◌==◌, if◌then◌else◌, [], ◌++◌, codes, decimal}
 use Rattle.pq_run.specs.declared.dat_fault.DatFault.{DatFault}
 use Rattle.pq_run.specs.declared.dat_fault.DatFault.TheVariants as dat_fault
-use Rattle.comtrade_cfg.specs.declared.fault.Quantity.{Quantity}
-use Rattle.comtrade_cfg.specs.declared.fault.Quantity.TheVariants as quantity
+use Rattle.cfg_fields.specs.declared.fault.Quantity.{Quantity}
+use Rattle.cfg_fields.specs.declared.fault.Quantity.TheVariants as quantity
 use Rattle.pq_run.specs.declared.status.Status.{Status}
 use Rattle.pq_run.specs.declared.status.Status.TheVariants as status
-use Rattle.comtrade_cfg.specs.declared.fault.Unsupported.{Unsupported}
-use Rattle.comtrade_cfg.specs.declared.fault.Unsupported.TheVariants as unsupported
+use Rattle.cfg_fields.specs.declared.fault.Unsupported.{Unsupported}
+use Rattle.cfg_fields.specs.declared.fault.Unsupported.TheVariants as unsupported
 use Rattle.pq_words.specs.Text.{Text}
 
 -- the exit code

@@ -118,12 +118,7 @@ fn report_of_dat<O: Sink>(
 }
 
 // The report of a recording.
-fn write_report<O: Sink>(
-    alloc: Global,
-    udin_mv: u64,
-    recording: &Recording,
-    out: &mut O,
-) -> Status
+fn write_report<O: Sink>(alloc: Global, udin_mv: u64, recording: &Recording, out: &mut O) -> Status
     requires voltage { IsVoltage udin_mv }
     requires one { length recording.now.numbers ≡ 1 }
     ensures { IsTopCallOnAnyShelf (Ends (Job (report_text recording.now (usual_limits udin_mv)))) (O.taken out.old) (O.taken out.new) (O.faults out.old) (O.faults out.new) result }

@@ -1,6 +1,6 @@
 // The command `check` on a cfg of 2013, on cfgs at fault, and on shelves and sinks that fail.
 use crate::outside::{Outside, WHOLE, run};
-use crate::signal::strict_cfg;
+use crate::signal::{WORKED, cfg};
 use comtrade_cfg::{Quantity, Unsupported};
 use pq_run::Status;
 use std::alloc::{AllocError, Global};
@@ -126,7 +126,7 @@ fn refused_cfgs(rt: HostRuntime) -> Result<(), Fail> {
 #[test]
 fn failing_calls(rt: HostRuntime) -> Result<(), Fail> {
     let alloc = rt.alloc();
-    let cfg = strict_cfg(alloc, 552)?;
+    let cfg = cfg(alloc, WORKED)?;
     let second_write = Outside {
         write_fails: &[1],
         write_piece: 13,

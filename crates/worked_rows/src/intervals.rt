@@ -1,51 +1,54 @@
-// The command `intervals` on worked recordings, and on shelves and sinks that fail.
+// The command `intervals` on worked recordings, on cfgs and dats that are refused, and on shelves and sinks that fail.
 use crate::outside::{Outside, WHOLE, run};
-use crate::signal::{Signal, dat, strict_cfg};
+use crate::reports::{
+    ALL_ZERO, AT_THRESHOLD, BELOW_THRESHOLD, HALVED, HEADER, ONE_ROW, OVER_TICK, TWO_ROWS,
+};
+use crate::signal::{Signal, WORKED, Written, cfg, dat};
 use comtrade_cfg::{Quantity, Unsupported};
 use pq_run::{DatFault, Status};
 use std::test::Fail;
 
 const WORDS: [&str; 5] = ["intervals", "--udin", "230000", "a.cfg", "a.dat"];
 
-const HEADER: &str = "kind,channel,start,end,from,to,tick,value,count,mark\n";
+// The worked cfg, at the half of a second before noon that puts noon at place 594.
+const BEFORE_NOON: Written<'static> = Written {
+    first: "01/03/2024,11:59:59.505000",
+    ..WORKED
+};
 
-const ONE_ROW: &str =
-    "kind,channel,start,end,from,to,tick,value,count,mark\nbasic,1,24,264,,,,229805362,10,clear\n";
+// At 0.02 V a count.
+const SQUARE: Written<'static> = Written {
+    coefficient: "0.02",
+    ..WORKED
+};
 
-const TWO_ROWS: &str =
-    "kind,channel,start,end,from,to,tick,value,count,mark\nbasic,1,24,264,,,,229805362,10,clear\nbasic,1,264,504,,,,229805362,10,clear\n";
+const AT: Signal = Signal::Stepped {
+    then: 10_350,
+    after: 11_500,
+};
 
-// all_zero: a dip and an interruption from the first sample on, open at the end, touch every interval.
-const ALL_ZERO: &str = "kind,channel,start,end,from,to,tick,value,count,mark
-basic,1,0,240,,,,0,10,flagged
-basic,1,240,480,,,,0,10,flagged
-basic,1,480,720,,,,0,10,flagged
-basic,1,720,960,,,,0,10,flagged
-dip,1,0,1200,,,,0,0,open
-interruption,1,0,1200,,,,0,0,open
-";
-
-// halved_half_cycles: a dip over the seam of two intervals touches both.
-const HALVED: &str = "kind,channel,start,end,from,to,tick,value,count,mark
-basic,1,24,264,,,,229805362,10,flagged
-dip,1,252,336,,,,114896273,0,closed
-basic,1,264,504,,,,211869380,10,flagged
-";
+const BELOW: Signal = Signal::Stepped {
+    then: 10_349,
+    after: 10_580,
+};
 
 // Recordings of worked signals, in pieces of every size.
 #[test]
 fn worked_recordings(rt: HostRuntime) -> Result<(), Fail> {
     let alloc = rt.alloc();
-    for (signal, n, text) in [
-        (Signal::Sine, 0, HEADER),
-        (Signal::Sine, 504, ONE_ROW),
-        (Signal::Sine, 505, TWO_ROWS),
-        (Signal::Sine, 552, TWO_ROWS),
-        (Signal::Zero, 1200, ALL_ZERO),
-        (Signal::Halved, 552, HALVED),
+    for (signal, written, samples, text) in [
+        (Signal::Sine, WORKED, 0, HEADER),
+        (Signal::Sine, WORKED, 504, ONE_ROW),
+        (Signal::Sine, WORKED, 505, TWO_ROWS),
+        (Signal::Sine, WORKED, 552, TWO_ROWS),
+        (Signal::Zero, WORKED, 1200, ALL_ZERO),
+        (Signal::Halved, WORKED, 552, HALVED),
+        (Signal::Sine, BEFORE_NOON, 1200, OVER_TICK),
+        (AT, SQUARE, 552, AT_THRESHOLD),
+        (BELOW, SQUARE, 552, BELOW_THRESHOLD),
     ] {
-        let cfg = strict_cfg(alloc, n)?;
-        let bytes = dat(alloc, signal, n)?;
+        let cfg = cfg(alloc, Written { samples, ..written })?;
+        let bytes = dat(alloc, signal, samples)?;
         for piece in [1, 100, 1_000_000] {
             let outside = Outside {
                 read_piece: piece,
@@ -53,9 +56,60 @@ fn worked_recordings(rt: HostRuntime) -> Result<(), Fail> {
                 ..WHOLE
             };
             let ran = run(alloc, &WORDS, Some(&cfg), Some(&bytes), outside)?;
-            assert_eq!(rt; ran.status, Status::Done, "{n} samples");
-            assert_eq!(rt; ran.taken.as_slice(), text.as_bytes(), "{n} samples");
+            assert_eq!(rt; ran.status, Status::Done, "{samples} samples");
+            assert_eq!(rt; ran.taken.as_slice(), text.as_bytes(), "{samples} samples");
         }
+    }
+    Ok(())
+}
+
+const NOT_YET: Status = Status::Unsupported {
+    what: Unsupported::NotYet,
+    line: 2,
+};
+
+const VALUE: Status = Status::Limit {
+    what: Quantity::Value,
+    line: 3,
+};
+
+const RATE: Status = Status::Limit {
+    what: Quantity::Rate,
+    line: 6,
+};
+
+// value_and_rate_limits, and cfgs of other channels, with an empty dat.
+#[test]
+fn cfgs_of_one_channel_and_others(rt: HostRuntime) -> Result<(), Fail> {
+    let alloc = rt.alloc();
+    for (counts, unit, coefficient, rate, status) in [
+        ("1,1A,0D", "V", "305.2", "1200", VALUE),
+        ("1,1A,0D", "V", "305.1", "1200", Status::Done),
+        ("1,1A,0D", "kV", "0.3051", "1200", Status::Done),
+        ("1,1A,0D", "V", "0.0325", "800", Status::Done),
+        ("1,1A,0D", "V", "0.0325", "799.999999", RATE),
+        ("1,1A,0D", "V", "305.2", "799.999999", RATE),
+        (
+            "1,1A,0D",
+            "A",
+            "305.2",
+            "1200",
+            Status::Selection { channel: 0 },
+        ),
+        ("2,2A,0D", "V", "305.2", "1200", NOT_YET),
+        ("2,1A,1D", "V", "0.0325", "1200", NOT_YET),
+    ] {
+        let written = Written {
+            counts,
+            unit,
+            coefficient,
+            rate,
+            ..WORKED
+        };
+        let ran = run(alloc, &WORDS, Some(&cfg(alloc, written)?), Some(&[]), WHOLE)?;
+        assert_eq!(rt; ran.status, status, "{counts} {unit} {coefficient} {rate}");
+        let text = if status == Status::Done { HEADER } else { "" };
+        assert_eq!(rt; ran.taken.as_slice(), text.as_bytes());
     }
     Ok(())
 }
@@ -64,31 +118,42 @@ fn worked_recordings(rt: HostRuntime) -> Result<(), Fail> {
 #[test]
 fn refused_files(rt: HostRuntime) -> Result<(), Fail> {
     let alloc = rt.alloc();
-    let cfg = strict_cfg(alloc, 552)?;
+    let cfg = cfg(
+        alloc,
+        Written {
+            samples: 552,
+            ..WORKED
+        },
+    )?;
     let whole = dat(alloc, Signal::Sine, 552)?;
-    let mut long = dat(alloc, Signal::Sine, 552)?;
+    let mut long = whole.to_vec(alloc)?;
     long.push(0)?;
+    let mut missing = whole.to_vec(alloc)?;
+    assert!(rt; missing.len() > 49);
+    missing[48] = 0;
+    missing[49] = 0x80;
     let cut = &whole[..whole.len().saturating_sub(1)];
-    let not_yet = Status::Unsupported {
-        what: Unsupported::NotYet,
-        line: 0,
-    };
     let cut_off = Status::DatFault {
         kind: DatFault::Short { at: 552 },
     };
     let left_over = Status::DatFault {
         kind: DatFault::Long { bytes: 1 },
     };
+    let no_count = Status::DatFault {
+        kind: DatFault::Missing { at: 5, channel: 1 },
+    };
     let over = Status::Limit {
         what: Quantity::CfgBytes,
         line: 0,
     };
+    let no_line = Status::CfgFault { line: 2, field: 0 };
     let large = vec![in alloc; 0u8; 1_048_577]?;
     for (cfg, dat, status) in [
         (cfg.as_slice(), Some(cut), cut_off),
         (cfg.as_slice(), Some(long.as_slice()), left_over),
+        (cfg.as_slice(), Some(missing.as_slice()), no_count),
         (cfg.as_slice(), None, Status::NoFile { file: 2 }),
-        (b"demo".as_slice(), None, not_yet),
+        (b"demo,pqa,1999\n".as_slice(), None, no_line),
         (large.as_slice(), None, over),
     ] {
         let ran = run(alloc, &WORDS, Some(cfg), dat, WHOLE)?;
@@ -102,7 +167,13 @@ fn refused_files(rt: HostRuntime) -> Result<(), Fail> {
 #[test]
 fn failing_calls(rt: HostRuntime) -> Result<(), Fail> {
     let alloc = rt.alloc();
-    let cfg = strict_cfg(alloc, 552)?;
+    let cfg = cfg(
+        alloc,
+        Written {
+            samples: 552,
+            ..WORKED
+        },
+    )?;
     let bytes = dat(alloc, Signal::Sine, 552)?;
     let second_write = Outside {
         write_fails: &[1],

@@ -4,8 +4,12 @@
 #[cfg(test)]
 mod check;
 #[cfg(test)]
+mod clocks;
+#[cfg(test)]
 mod intervals;
 #[cfg(test)]
 mod outside;
+#[cfg(test)]
+mod reports;
 #[cfg(test)]
 mod signal;

@@ -1,5 +1,5 @@
 use Rattle.std.proofs.Common.{◌≡◌, ◌-◌, ◌+◌}
-use Rattle.comtrade_cfg.specs.Cursor.{ahead}
+use Rattle.cfg_fields.specs.Cursor.{ahead}
 use Rattle.comtrade_cfg.specs.CfgText.{analogue_line, channel_lines}
 use Rattle.comtrade_cfg.proofs.ChannelLemmas.{with_front}
 use Rattle.comtrade_cfg.proofs.channels.read_analogue.Given as goal

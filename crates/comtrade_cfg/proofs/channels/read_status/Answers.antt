@@ -1,5 +1,5 @@
 use Rattle.std.proofs.lemmas.Result.{err_from_is_err_and}
-use Rattle.comtrade_cfg.specs.Cursor.{ahead}
+use Rattle.cfg_fields.specs.Cursor.{ahead}
 use Rattle.comtrade_cfg.specs.CfgText.{status_line, channel_lines}
 use Rattle.comtrade_cfg.proofs.ChannelLemmas.{goes_on, ends, is_done}
 use Rattle.comtrade_cfg.proofs.channels.read_status.Goals as goal

@@ -1,6 +1,6 @@
 use Rattle.std.proofs.Common.{◌≤◌, length, arith}
 use Rattle.comtrade_cfg.specs.Configuration.{view}
-use Rattle.comtrade_cfg.proofs.ReadingSteps.{few}
+use Rattle.comtrade_cfg.proofs.ConfigurationBounds.{few}
 use Rattle.comtrade_cfg.proofs.ValueLemmas.{few_chosen}
 use Rattle.comtrade_cfg.proofs.choosing.select.Goals as goal
 

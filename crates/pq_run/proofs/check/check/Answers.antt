@@ -1,4 +1,4 @@
-use Rattle.std.proofs.Common.{◌≡◌, subst, List, ℕ}
+use Rattle.std.proofs.Common.{subst, List, ℕ}
 use Rattle.pq_run.proofs.StageLemmas.{top_call_of_file}
 use Rattle.pq_run.specs.Check.{canonical_course}
 use Rattle.pq_run.specs.TopCall.{IsTopCallOnAnyShelf}

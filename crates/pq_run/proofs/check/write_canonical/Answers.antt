@@ -1,4 +1,4 @@
-use Rattle.std.proofs.Common.{◌≡◌, ◌∙◌, sym, subst}
+use Rattle.std.proofs.Common.{◌∙◌, sym, subst}
 use Rattle.pq_run.specs.Check.{read_course}
 use Rattle.pq_run.specs.TopCall.{IsTopCallOnAnyShelf}
 use Rattle.pq_run.specs.Verdict.{Ends, Job}

@@ -1,6 +1,4 @@
 use Rattle.std.proofs.Common.{◌≡◌, ◌∙◌, sym, ap, subst, Ok}
-use Rattle.comtrade_cfg.specs.Configuration.{view}
-use Rattle.comtrade_cfg.specs.Selecting.{seen}
 use Rattle.pq_run.specs.Intervals.{recorded_course, told}
 use Rattle.pq_run.specs.Samples.{samples_of}
 use Rattle.pq_run.specs.TopCall.{IsTopCallOnAnyShelf}

@@ -1,4 +1,4 @@
-use Rattle.std.proofs.Common.{◌≡◌, ◌∙◌, subst, List, ℕ, ap}
+use Rattle.std.proofs.Common.{◌∙◌, subst, List, ℕ, ap}
 use Rattle.pq_run.specs.ReportText.{report_text}
 use Rattle.pq_run.specs.TopCall.{IsTopCallOnAnyShelf}
 use Rattle.pq_run.specs.Verdict.{Ends, Job}

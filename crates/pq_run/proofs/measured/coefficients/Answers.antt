@@ -1,12 +1,10 @@
-use Rattle.std.proofs.Common.{◌≡◌, ◌∙◌, ◌<◌, true, length, get_or, refl, sym, ap, subst, arith, pos, Some, None, cond}
+use Rattle.std.proofs.Common.{◌≡◌, ◌∙◌, true, length, get_or, sym, ap, arith, pos, Some, None, cond}
 use Rattle.std.specs.Option.{option_map_or}
 use Rattle.std.specs.Prelude.{slice_get}
-use Rattle.comtrade_cfg.specs.Configuration.{view}
 use Rattle.comtrade_cfg.specs.Selecting.{coefficients_of, is_within_value_limit}
 use Rattle.comtrade_cfg.specs.declared.voltage.Coefficients.{Coefficients}
-use Rattle.pq_run.proofs.SelectionLemmas.{IsOneChannel, one_channel}
+use Rattle.pq_run.proofs.SelectionLemmas.{one_channel}
 use Rattle.pq_run.specs.Intervals.{told}
-use Rattle.pq_run.specs.Samples.{coefficients_at}
 use Rattle.pq_run.proofs.measured.coefficients.Goals as goal
 
 pub index-requires : goal.index-requires

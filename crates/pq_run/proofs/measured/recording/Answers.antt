@@ -1,4 +1,4 @@
-use Rattle.std.proofs.Common.{◌≡◌, ◌∙◌, ◌+◌, ◌*◌, ◌≤◌, ◌^◌, ◌⊎◌, [], ◌∷◌, length, map, refl, sym, ap, subst, arith, rules, Ok, Err, to_z, of_z, w64}
+use Rattle.std.proofs.Common.{◌≡◌, ◌∙◌, ◌⊎◌, [], ◌∷◌, map, refl, sym, ap, subst, arith, rules, Ok, Err, to_z, of_z, w64}
 use Rattle.std.proofs.lemmas.Int.{ints}
 use Rattle.comtrade_cfg.proofs.ConfigurationBounds.{configuration_bounded}
 use Rattle.comtrade_cfg.specs.Configuration.{view}
@@ -39,7 +39,7 @@ new-requires c =
     let bounds = configuration_bounded m.configuration (one_channel m c.requires).said in
     let judged = judged_dat 10 (0 ∷ []) dat n in
     let given : unless_fault judged (channel_samples c.coefficients.result 10 0 dat n) ≡ Ok samples =
-        subst (λ r. GivesUnless fault.OutOfMemory (λ samples. samples.items) r (unless_fault judged (channel_samples c.coefficients.result 10 0 dat n))) c.in_ok-samples.was c.samples.ensures.value in
+    subst (λ r. GivesUnless fault.OutOfMemory (λ samples. samples.items) r (unless_fault judged (channel_samples c.coefficients.result 10 0 dat n))) c.in_ok-samples.was c.samples.ensures.value in
     let count = as_many judged c.coefficients.result dat n samples given in
     let first : to_z w64 (of_z w64 m.configuration.first) ≡ m.configuration.first = omega (arith, ints, bounds.first) in
     let all : map (λ s. s.items) c.in_ok-samples-2.samples.items ≡ samples ∷ [] = ap (map (λ s. s.items)) c.in_ok-samples-2.ensures.items in
@@ -56,7 +56,7 @@ returns-clause-value c =
     let bounds = configuration_bounded m.configuration one.said in
     let judged = judged_dat 10 (0 ∷ []) dat n in
     let given : unless_fault judged (channel_samples c.coefficients.result 10 0 dat n) ≡ Ok samples =
-        subst (λ r. GivesUnless fault.OutOfMemory (λ samples. samples.items) r (unless_fault judged (channel_samples c.coefficients.result 10 0 dat n))) c.in_ok-samples.was c.samples.ensures.value in
+    subst (λ r. GivesUnless fault.OutOfMemory (λ samples. samples.items) r (unless_fault judged (channel_samples c.coefficients.result 10 0 dat n))) c.in_ok-samples.was c.samples.ensures.value in
     let good = unless_ok judged (channel_samples c.coefficients.result 10 0 dat n) samples given in
     let read : channel_samples (coefficients_at m.configuration 0) 10 0 dat n ≡ samples = ap (λ k. channel_samples k 10 0 dat n) (sym c.coefficients.ensures.value) ∙ good.1 in
     let first : to_z w64 (of_z w64 m.configuration.first) ≡ m.configuration.first = omega (arith, ints, bounds.first) in

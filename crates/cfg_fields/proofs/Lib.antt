@@ -1,0 +1,7 @@
+pub mod LineLemmas
+pub mod ReadingLaws
+pub mod WrittenFacts
+pub mod FieldTexts
+pub mod ReadBackNumbers
+pub mod GrammarFields
+mod StandardFacts

@@ -1,0 +1,18 @@
+//! Lines and fields of a configuration text, and why one is at fault.
+#![tactic(auto)]
+
+pub use cursor::Cursor;
+pub use fault::{CfgFault, Quantity, Unsupported};
+pub use field::{
+    channel_count, decimal_text, frequency_field, is_word, number_field, position_field,
+    rate_field, samples_field, text_field,
+};
+pub use lines::{fields_of, next_line, only_blank_lines};
+pub use time_field::{hexadecimal, leap_field, local_code, moment_fields};
+
+mod blank;
+mod cursor;
+mod fault;
+mod field;
+mod lines;
+mod time_field;

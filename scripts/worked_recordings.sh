@@ -1,0 +1,19 @@
+#!/bin/sh
+# The worked recordings of examples/ through the shipped program, outside the gate: each report, byte for byte.
+# Prints a line a recording, and ends with 0 where each was as expected.
+home=$(cd "$(dirname "$0")/.." && pwd)
+work=$(mktemp -d)
+trap 'rm -rf "$work"' EXIT
+failed=0
+
+for wanted in "$home"/examples/*.csv; do
+    recording=${wanted%.csv}
+    name=$(basename "$recording")
+    if "$home/pqa" intervals --udin 230000 "$recording.cfg" "$recording.dat" >"$work/out" && cmp "$work/out" "$wanted"; then
+        echo "ok      $name"
+    else
+        echo "FAILED  $name"
+        failed=1
+    fi
+done
+exit $failed
