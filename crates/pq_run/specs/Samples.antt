@@ -1,5 +1,5 @@
 -- The subject: the samples that a dat gives for a configuration and a selection, or its first fault (C37.111, binary data record; the rounding: profile).
-use Rattle.std.specs.Prelude.{ℕ, zero, suc, ◌+◌, ◌-◌, ◌*◌, nat_le, List, length, map, find, ℤ, pos, neg_ℤ, Option, Some, None, slice_get, Result, Ok, Err}
+use Rattle.std.specs.Prelude.{ℕ, zero, suc, ◌+◌, ◌-◌, ◌*◌, ◌^◌, ◌≤◌, nat_le, List, length, map, find, ℤ, pos, neg_ℤ, unsigned_abs, Option, Some, None, slice_get, Result, Ok, Err}
 use Rattle.std.specs.Option.{option_map_or}
 use Rattle.std.specs.Ordering.{int_eq}
 use Rattle.comtrade_cfg.specs.Configuration.{Configuration}
@@ -13,6 +13,10 @@ use Rattle.pq_run.specs.declared.dat_fault.DatFault.TheVariants as fault
 use Rattle.pq_words.specs.FirstFault.{◌>>=◌, provided}
 use Rattle.pq_words.specs.Steps.{numbers_below}
 use Rattle.pq_words.specs.Text.{Text}
+
+-- no count makes a sample past the limit: coefficients in whole picovolts
+abbrev pub AreWithinLimit : Coefficients → Type 0
+AreWithinLimit k = unsigned_abs k.a * 32767 + unsigned_abs k.b ≤ 10 ^ 19
 
 -- a value, or the fault that was found first
 abbrev pub unless_fault : {X : Type 0} → Result (Unit {0}) DatFault → X → Result X DatFault

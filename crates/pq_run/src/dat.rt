@@ -3,7 +3,7 @@ ghost use Rattle.std.specs.Prelude.{◌≡◌, ◌+◌, ◌*◌, ◌-◌, ◌^�
 ghost use Rattle.pq_base.specs.Decimal.{rounded_quotient};
 ghost use Rattle.pq_base.specs.Sample.{sample_of};
 ghost use Rattle.pq_run.specs.BinaryRecord.{count_at, record_at};
-ghost use Rattle.pq_run.specs.Samples.{channel_samples, judged_dat, judged_record, judged_records, unless_fault};
+ghost use Rattle.pq_run.specs.Samples.{AreWithinLimit, channel_samples, judged_dat, judged_record, judged_records, unless_fault};
 ghost use Rattle.pq_run.specs.declared.dat_fault.DatFault.TheVariants as fault;
 ghost use Rattle.pq_words.specs.FirstFault.{GivesUnless, provided};
 ghost use Rattle.pq_words.specs.Magnitude.{IsWithin};
@@ -26,7 +26,7 @@ pub fn samples(
     n: u64,
     dat: &[u8],
 ) -> Result<Vec<i64>, DatFault>
-    requires limit { unsigned_abs coefficients.now.a * 32767 + unsigned_abs coefficients.now.b ≤ 10 ^ 19 }
+    requires limit { AreWithinLimit coefficients.now }
     requires few { n ≤ 50_000_000 }
     ensures value { GivesUnless fault.OutOfMemory (λ samples. samples.items) result (unless_fault (judged_dat 10 (0 ∷ []) dat.now n) (channel_samples coefficients.now 10 0 dat.now n)) }
     ensures quiet { IfOk result (λ samples. All (IsWithin (10 ^ 13)) samples.items) }
@@ -43,7 +43,7 @@ fn good_samples(
     n: u64,
     dat: &[u8],
 ) -> Result<Vec<i64>, DatFault>
-    requires limit { unsigned_abs coefficients.now.a * 32767 + unsigned_abs coefficients.now.b ≤ 10 ^ 19 }
+    requires limit { AreWithinLimit coefficients.now }
     requires few { n ≤ 50_000_000 }
     ensures value { GivesUnless fault.OutOfMemory (λ samples. samples.items) result (unless_fault (judged_records 10 (0 ∷ []) dat.now n) (channel_samples coefficients.now 10 0 dat.now n)) }
     ensures quiet { IfOk result (λ samples. All (IsWithin (10 ^ 13)) samples.items) }
@@ -87,7 +87,7 @@ fn record(position: usize, dat: &[u8]) -> Option<&[u8]>
 
 // The sample of a count, in whole microvolts.
 fn microvolts(coefficients: &Coefficients, count: i16) -> i64
-    requires limit { unsigned_abs coefficients.now.a * 32767 + unsigned_abs coefficients.now.b ≤ 10 ^ 19 }
+    requires limit { AreWithinLimit coefficients.now }
     requires within { IsWithin 32767 count }
     ensures value { result ≡ sample_of coefficients.now.a coefficients.now.b count }
     ensures quiet { IsWithin (10 ^ 13) result }
@@ -99,7 +99,7 @@ fn microvolts(coefficients: &Coefficients, count: i16) -> i64
 
 // The sample of a count, in whole picovolts.
 fn picovolts(coefficients: &Coefficients, count: i16) -> i128
-    requires limit { unsigned_abs coefficients.now.a * 32767 + unsigned_abs coefficients.now.b ≤ 10 ^ 19 }
+    requires limit { AreWithinLimit coefficients.now }
     requires within { IsWithin 32767 count }
     ensures value { result ≡ (coefficients.now.a *ℤ count) +ℤ coefficients.now.b }
     ensures within { unsigned_abs result ≤ 10 ^ 19 }

@@ -1,11 +1,11 @@
 // What is measured: a configuration of one channel and its selection, and the recording that its dat makes.
-ghost use Rattle.std.specs.Prelude.{◌≡◌, ◌+◌, ◌*◌, ◌^◌, ◌≤◌, None, length, unsigned_abs, IfErr, IfOk};
+ghost use Rattle.std.specs.Prelude.{◌≡◌, None, length, IfErr, IfOk};
 ghost use Rattle.comtrade_cfg.specs.CfgText.{IsConfiguration, configuration_of};
 ghost use Rattle.comtrade_cfg.specs.Configuration.{view};
 ghost use Rattle.comtrade_cfg.specs.Selecting.{seen, selected_of};
 ghost use Rattle.pq_run.specs.Check.{cfg_refusal};
 ghost use Rattle.pq_run.specs.Intervals.{IsMeasured, IsRefusing, has_one_channel, measured_of, or_refused, select_refusal, told};
-ghost use Rattle.pq_run.specs.Samples.{coefficients_at, samples_of};
+ghost use Rattle.pq_run.specs.Samples.{AreWithinLimit, coefficients_at, samples_of};
 ghost use Rattle.pq_run.specs.declared.dat_fault.DatFault.TheVariants as dat_fault;
 ghost use Rattle.pq_run.specs.declared.status.Status.TheVariants as status;
 ghost use Rattle.pq_words.specs.FirstFault.{GivesUnless};
@@ -106,7 +106,7 @@ pub fn recording(alloc: Global, measured: &Measured, dat: &[u8]) -> Result<Recor
 fn coefficients(measured: &Measured) -> Coefficients
     requires { IsMeasured (told measured.now) }
     ensures value { result ≡ coefficients_at (view measured.now.cfg) 0 }
-    ensures within { unsigned_abs result.a * 32767 + unsigned_abs result.b ≤ 10 ^ 19 }
+    ensures within { AreWithinLimit result }
 {
     match measured.cfg.analogue[0].coefficients() {
         Some(coefficients) => coefficients,

@@ -1,4 +1,7 @@
 // The ten-minute ticks of clocks and their places, by hand.
+ghost use Rattle.std.specs.Prelude.{◌≤◌};
+ghost use Rattle.pq_time.specs.Time.{IsClock};
+
 use pq_time::{Clock, print_moment};
 use std::test::Fail;
 
@@ -17,6 +20,21 @@ struct Row<'a> {
     n: u64,
     ticks: &'a [(i64, u64)],
     first: &'a [u8; 30],
+}
+
+// Whether the ticks of the clock among n samples are these, in seconds, each at its place.
+fn has_ticks(clock: Clock, n: u64, wanted: &[(i64, u64)]) -> bool
+    requires clock { IsClock clock }
+    requires places { n ≤ 2_000_000 }
+{
+    let mut ticks = clock.ticks(n, 600);
+    for &(second, place) in wanted {
+        let moment = second.saturating_mul(SECOND);
+        if ticks.next() != Some(second) || clock.place_of(moment, n) != place {
+            return false;
+        }
+    }
+    ticks.next().is_none()
 }
 
 #[test]
@@ -112,13 +130,7 @@ fn table_of_clocks(rt: HostRuntime) -> Result<(), Fail> {
         assert!(rt; 800_000_000 <= rate && rate <= 200_000_000_000 && n <= 2_000_000);
         let clock = Clock { t0, rate };
         assert!(rt; print_moment(clock.time_of(0)) == *row.first);
-        let mut ticks = clock.ticks(n, 600);
-        for (second, place) in row.ticks {
-            assert!(rt; ticks.next() == Some(*second), "{second}");
-            assert!(rt; -2_000_000_000 < *second && *second < 2_000_000_000);
-            assert_eq!(rt; clock.place_of(*second * SECOND, n), *place, "{second}");
-        }
-        assert!(rt; ticks.next().is_none(), "{n} samples");
+        assert!(rt; has_ticks(clock, n, row.ticks), "{n} samples");
     }
     Ok(())
 }

@@ -6,6 +6,7 @@ use crate::reports::{
 use crate::signal::{Signal, WORKED, Written, cfg, dat};
 use comtrade_cfg::{Quantity, Unsupported};
 use pq_run::{DatFault, Status};
+use std::alloc::{AllocError, Global};
 use std::test::Fail;
 
 const WORDS: [&str; 5] = ["intervals", "--udin", "230000", "a.cfg", "a.dat"];
@@ -114,17 +115,22 @@ fn cfgs_of_one_channel_and_others(rt: HostRuntime) -> Result<(), Fail> {
     Ok(())
 }
 
-// Files that are refused: nothing is written.
-#[test]
-fn refused_files(rt: HostRuntime) -> Result<(), Fail> {
-    let alloc = rt.alloc();
-    let cfg = cfg(
+// The worked cfg of 552 samples.
+fn worked_cfg(alloc: Global) -> Result<Vec<u8>, AllocError> {
+    cfg(
         alloc,
         Written {
             samples: 552,
             ..WORKED
         },
-    )?;
+    )
+}
+
+// Dats that are refused: nothing is written.
+#[test]
+fn refused_dats(rt: HostRuntime) -> Result<(), Fail> {
+    let alloc = rt.alloc();
+    let cfg = worked_cfg(alloc)?;
     let whole = dat(alloc, Signal::Sine, 552)?;
     let mut long = whole.to_vec(alloc)?;
     long.push(0)?;
@@ -133,30 +139,37 @@ fn refused_files(rt: HostRuntime) -> Result<(), Fail> {
     missing[48] = 0;
     missing[49] = 0x80;
     let cut = &whole[..whole.len().saturating_sub(1)];
-    let cut_off = Status::DatFault {
-        kind: DatFault::Short { at: 552 },
-    };
-    let left_over = Status::DatFault {
-        kind: DatFault::Long { bytes: 1 },
-    };
-    let no_count = Status::DatFault {
-        kind: DatFault::Missing { at: 5, channel: 1 },
-    };
+    for (dat, kind) in [
+        (cut, DatFault::Short { at: 552 }),
+        (long.as_slice(), DatFault::Long { bytes: 1 }),
+        (missing.as_slice(), DatFault::Missing { at: 5, channel: 1 }),
+        (&[], DatFault::Short { at: 1 }),
+    ] {
+        let ran = run(alloc, &WORDS, Some(&cfg), Some(dat), WHOLE)?;
+        assert_eq!(rt; ran.status, Status::DatFault { kind });
+        assert_eq!(rt; ran.taken.len(), 0);
+    }
+    Ok(())
+}
+
+// Files that are missing, over their limit or no cfg: nothing is written.
+#[test]
+fn refused_files(rt: HostRuntime) -> Result<(), Fail> {
+    let alloc = rt.alloc();
+    let cfg = worked_cfg(alloc)?;
+    let large = vec![in alloc; 0u8; 1_048_577]?;
     let over = Status::Limit {
         what: Quantity::CfgBytes,
         line: 0,
     };
     let no_line = Status::CfgFault { line: 2, field: 0 };
-    let large = vec![in alloc; 0u8; 1_048_577]?;
-    for (cfg, dat, status) in [
-        (cfg.as_slice(), Some(cut), cut_off),
-        (cfg.as_slice(), Some(long.as_slice()), left_over),
-        (cfg.as_slice(), Some(missing.as_slice()), no_count),
-        (cfg.as_slice(), None, Status::NoFile { file: 2 }),
-        (b"demo,pqa,1999\n".as_slice(), None, no_line),
-        (large.as_slice(), None, over),
+    for (cfg, status) in [
+        (None, Status::NoFile { file: 1 }),
+        (Some(cfg.as_slice()), Status::NoFile { file: 2 }),
+        (Some(b"demo,pqa,1999\n".as_slice()), no_line),
+        (Some(large.as_slice()), over),
     ] {
-        let ran = run(alloc, &WORDS, Some(cfg), dat, WHOLE)?;
+        let ran = run(alloc, &WORDS, cfg, None, WHOLE)?;
         assert_eq!(rt; ran.status, status);
         assert_eq!(rt; ran.taken.len(), 0);
     }
@@ -167,13 +180,7 @@ fn refused_files(rt: HostRuntime) -> Result<(), Fail> {
 #[test]
 fn failing_calls(rt: HostRuntime) -> Result<(), Fail> {
     let alloc = rt.alloc();
-    let cfg = cfg(
-        alloc,
-        Written {
-            samples: 552,
-            ..WORKED
-        },
-    )?;
+    let cfg = worked_cfg(alloc)?;
     let bytes = dat(alloc, Signal::Sine, 552)?;
     let second_write = Outside {
         write_fails: &[1],
