@@ -4,5 +4,6 @@ pub mod CutLaws
 pub mod FrontLemmas
 pub mod PlaceLaws
 pub mod ResultLaws
+pub mod TouchLemmas
 pub mod WalkLemmas
 mod StandardFacts

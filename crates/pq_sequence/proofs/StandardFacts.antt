@@ -11,6 +11,8 @@ use Rattle.pq_items.specs.ItemOrder.{item_end}
 use Rattle.pq_sequence.specs.BasicInterval.{basic_runs, front_of, fronts}
 use Rattle.pq_sequence.specs.MeasuredRecording.{all_events, clock_of, tick_places}
 use Rattle.pq_sequence.specs.SequentialResult.{items_under, sequential, cut, end_at}
+use Rattle.pq_sequence.specs.Touches.{is_reached}
+use Rattle.pq_sequence.specs.declared.touches.Reach.{Reach}
 use Rattle.pq_time.specs.Tick.{ticks}
 use Rattle.pq_time.specs.Time.{place_of, time_of}
 use Rattle.ten_twelve.specs.Run.{runs}
@@ -134,3 +136,11 @@ pub all_zero : sequential (recorded (replicate 1200 (pos 0))) usual
     ∷ item.Dip 1 0 1200 0 true ∷ item.Interruption 1 0 1200 0 true ∷ []
 unfolding computed
 all_zero = refl
+
+-- a long event from place 100 to 2000, and a short one that begins at 400
+abbrev long_and_short : List Reach
+long_and_short = record { start = 100; furthest = 2000 } ∷ record { start = 400; furthest = 2000 } ∷ []
+
+-- spans past the short one are still reached by the long one; spans that only meet it are not
+pub long_over_short : (is_reached long_and_short 420 480 ≡ true) × (is_reached long_and_short 1999 2239 ≡ true) × (is_reached long_and_short 2000 2240 ≡ false) × (is_reached long_and_short 0 100 ≡ false)
+long_over_short = (refl, refl, refl, refl)

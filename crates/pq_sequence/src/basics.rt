@@ -1,12 +1,14 @@
 // Basic intervals, with their values and flags.
-ghost use Rattle.std.specs.Prelude.{◌≡◌, ◌<◌, ◌≤◌, ◌-◌, ◌++◌, length, map, All, IfOk, OnOk};
-ghost use Rattle.event_detect.specs.Flag.{is_touched, overlaps};
+ghost use Rattle.std.specs.Prelude.{◌≡◌, ◌<◌, ◌≤◌, ◌-◌, ◌++◌, List, length, map, All, IfOk, OnOk};
+ghost use Rattle.event_detect.specs.declared.event.Event.{Event};
 ghost use Rattle.pq_base.specs.Recorded.{sample_count};
 ghost use Rattle.pq_sequence.specs.BasicInterval.{AreBoundaries, IsRun, basic_span, cycles_of};
 ghost use Rattle.pq_sequence.specs.SequentialResult.{basic_item};
+ghost use Rattle.pq_sequence.specs.Touches.{AreReaches};
 ghost use Rattle.ten_twelve.specs.Run.{AreStarts, runs};
 
 use crate::cycles::cycles_of_line;
+use crate::touches::{Reach, is_touched, reaches};
 use event_detect::Event;
 use fixed_rms::rms;
 use pq_base::Recording;
@@ -35,6 +37,7 @@ pub fn basic_runs(
 
 /// Adds the basic intervals of the first channel, one of each run of cycles.
 pub fn push_basics(
+    alloc: Global,
     items: &mut Vec<Item>,
     recording: &Recording,
     boundaries: &[u64],
@@ -49,9 +52,10 @@ pub fn push_basics(
         ++ map (basic_item recording.now events.now 0)
         (map (basic_span boundaries.now) runs.now)) }
 {
+    let reaches = reaches(alloc, events)?;
     for run in runs {
         let span = span_of(boundaries, *run);
-        items.push(basic(recording, events, span))?;
+        items.push(basic(recording, &reaches, span))?;
     }
     Ok(())
 }
@@ -68,11 +72,12 @@ fn span_of(boundaries: &[u64], run: Span) -> Span
 }
 
 // The basic interval of the first channel over a span.
-fn basic(recording: &Recording, events: &[Event], span: Span) -> Item
+fn basic(recording: &Recording, reaches: &[Reach], span: Span) -> Item
     requires channel { 0 < length recording.now.numbers }
     requires some { span.start < span.end }
     requires inside { span.end ≤ sample_count recording.now }
-    ensures { result ≡ basic_item recording.now events.now 0 span }
+    ensures { (events : List Event) → AreReaches events reaches.now
+        → result ≡ basic_item recording.now events 0 span }
 {
     let samples = recording.samples(0);
     Item::Basic {
@@ -81,21 +86,6 @@ fn basic(recording: &Recording, events: &[Event], span: Span) -> Item
         end: span.end,
         cycles: cycles_of_line(recording.lf()),
         value: rms(&samples[span.start as usize..span.end as usize]),
-        flagged: is_touched(events, span),
+        flagged: is_touched(reaches, span),
     }
-}
-
-// Whether some event, of any kind, overlaps the span.
-#[tactic(auto, unfolding(event_detect::specs::Flag::is_touched))]
-fn is_touched(events: &[Event], span: Span) -> bool
-    ensures { result ≡ is_touched events.now span.start span.end }
-{
-    events.iter().any(|event| overlaps(event, span))
-}
-
-// Whether the event and the span have a place in common.
-fn overlaps(event: &Event, span: Span) -> bool
-    ensures { result ≡ overlaps event.now span.start span.end }
-{
-    event.start < span.end && span.start < event.end
 }

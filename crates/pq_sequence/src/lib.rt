@@ -12,4 +12,5 @@ mod fronts;
 mod sequential;
 #[cfg(test)]
 mod tests;
+mod touches;
 mod windows;

@@ -59,7 +59,7 @@ fn all_items(alloc: Global, recording: &Recording, limits: &Limits) -> Result<Ve
     let boundaries = reference_cycles(alloc, recording)?;
     let runs = recorded_runs(alloc, recording, &boundaries)?;
     let mut items = Vec::with_capacity(alloc, runs.len() + events.len())?;
-    push_basics(&mut items, recording, &boundaries, &runs, &events)?;
+    push_basics(alloc, &mut items, recording, &boundaries, &runs, &events)?;
     push_event_items(&mut items, recording, &events)?;
     Ok(items)
 }
