@@ -1,6 +1,6 @@
 #!/usr/bin/env python3
-"""Writes a recording of ten million samples as largest.cfg and largest.dat into a folder: a noisy sine at 1200
-samples a second, with a dip each ten minutes, from a second after noon on."""
+"""Writes two recordings of ten million samples into a folder, a noisy sine at 1200 samples a second from a second
+after noon on: largest.cfg and largest.dat, with a dip each ten minutes; dips.cfg and dips.dat, with a dip each four cycles."""
 import struct
 import sys
 
@@ -13,14 +13,16 @@ LINES = [
 ]
 
 
-def count(i):
-    size = 7000 if i % 720_000 < 600 else 10_000
+def count(i, dips_each):
+    size = 7000 if i % dips_each < 48 else 10_000
     return CYCLE[i % 24] * size // 10_000 + i * 7919 % 41 - 20
 
 
 folder = sys.argv[1]
-with open(f"{folder}/largest.cfg", "w", newline="") as cfg:
-    cfg.write("".join(line + "\n" for line in LINES))
-with open(f"{folder}/largest.dat", "wb") as dat:
-    for start in range(0, SAMPLES, 100_000):
-        dat.write(b"".join(struct.pack("<IIh", i + 1, 0, count(i)) for i in range(start, start + 100_000)))
+for name, dips_each in [("largest", 720_000), ("dips", 96)]:
+    with open(f"{folder}/{name}.cfg", "w", newline="") as cfg:
+        cfg.write("".join(line + "\n" for line in LINES))
+    with open(f"{folder}/{name}.dat", "wb") as dat:
+        for start in range(0, SAMPLES, 100_000):
+            records = (struct.pack("<IIh", i + 1, 0, count(i, dips_each)) for i in range(start, start + 100_000))
+            dat.write(b"".join(records))

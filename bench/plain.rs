@@ -191,6 +191,23 @@ fn runs(places: &[usize], ticks: &[usize]) -> Vec<(usize, usize)> {
     found
 }
 
+// Where events begin, in rising order, each with the furthest end of those that begin there or before.
+fn reaches<'a>(events: impl Iterator<Item = &'a (usize, usize, u64, bool)>) -> Vec<(usize, usize)> {
+    let mut found: Vec<(usize, usize)> = events.map(|event| (event.0, event.1)).collect();
+    found.sort_unstable();
+    let mut furthest = 0;
+    for reach in &mut found {
+        furthest = furthest.max(reach.1);
+        reach.1 = furthest;
+    }
+    found
+}
+
+fn is_touched(reaches: &[(usize, usize)], start: usize, end: usize) -> bool {
+    let count = reaches.partition_point(|reach| reach.0 < end);
+    count > 0 && start < reaches[count - 1].1
+}
+
 // The samples in microvolts, or the number of the first record that is not there or has no count.
 fn samples(a: i128, b: i128, n: usize, dat: &[u8]) -> Result<Vec<i64>, usize> {
     let mut samples = Vec::with_capacity(n.min(dat.len() / 10));
@@ -232,11 +249,11 @@ fn main() {
         ("interruption", 7, events(&all, n, |v| v < udin * 50, |v| v >= udin * 70, u64::min)),
     ];
     let places = cycle_boundaries(&samples);
+    let reaches = reaches(kinds.iter().flat_map(|(_, _, found)| found));
     let mut items: Vec<Item> = Vec::new();
     for (first, last) in runs(&places, &clock.tick_places(n)) {
         let (start, end) = (places[first], places[last]);
-        let touched = kinds.iter().any(|(_, _, found)| found.iter().any(|e| e.0 < end && start < e.1));
-        let mark = if touched { "flagged" } else { "clear" };
+        let mark = if is_touched(&reaches, start, end) { "flagged" } else { "clear" };
         items.push((end, 1, start, row(&clock, "basic", start, end, rms(&samples[start..end]), 10, mark)));
     }
     for (kind, rank, found) in &kinds {

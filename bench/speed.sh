@@ -1,5 +1,5 @@
 #!/bin/sh
-# Times `intervals` on a recording of ten million samples, and `check` on a cfg of a megabyte and 1,998 channels, against
+# Times `intervals` on two recordings of ten million samples, and `check` on a cfg of a megabyte and 1,998 channels, against
 # plain Rust that does the same steps, and compares their output. Outside the gate: wants rustc and python3.
 set -e
 home=$(cd "$(dirname "$0")/.." && pwd)
@@ -32,11 +32,12 @@ def best(program):
     return min(times)
 
 proved, unproved = best(program), best(plain)
-print(f"{words[0]}: proved {proved * 1000:.1f} ms, plain Rust {unproved * 1000:.1f} ms, ratio {proved / unproved:.2f}")
+print(f"{' '.join(words)}: proved {proved * 1000:.1f} ms, plain Rust {unproved * 1000:.1f} ms, ratio {proved / unproved:.2f}")
 PYTHON
 }
 
 compare plain intervals --udin 230000 largest.cfg largest.dat
+compare plain intervals --udin 230000 dips.cfg dips.dat
 python3 - "$home/crates/pqa/out/pqa" <<'PYTHON'
 import os, resource, subprocess, sys
 
