@@ -17,7 +17,7 @@ pub enum Status {
     Limit { what: Quantity, line: u32 },
     /// No channel of this number is measured; channel 0 stands for none in V or kV.
     Selection { channel: u32 },
-    /// The first fault of the dat.
+    /// The first fault of the dat; never want of memory.
     DatFault { kind: DatFault },
     /// A call of the shelf failed; the shelf counts so many faults.
     ReadFault { faults: u64 },
