@@ -5,3 +5,4 @@ pub mod Successors
 pub mod Text
 pub mod Magnitude
 pub mod FirstFault
+pub mod Samples
