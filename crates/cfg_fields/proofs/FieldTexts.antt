@@ -25,12 +25,15 @@ free_joined c xs ys p q = list_any-append (λ b. b == c) xs ys ∙ ap (λ b. b |
 -- a text in which no byte passes is one part
 pub split_free : (p : ℕ → Bool) (xs : Text) → list_any p xs ≡ false → slice_split p xs ≡ xs ∷ []
 split_free p [] h = refl
-split_free p (x ∷ xs) h = let q = or_false (p x) (list_any p xs) h in slice_split-cons_no p x xs q.0 ∙ ap (onto_first x) (split_free p xs q.1)
+split_free p (x ∷ xs) h = let q = or_false (p x) (list_any p xs) h in slice_split-cons_no p x xs q.0
+    ∙ ap (onto_first x) (split_free p xs q.1)
 
 -- the first part ends at the first byte that passes
-pub split_at : (p : ℕ → Bool) (xs : Text) (y : ℕ) (ys : Text) → list_any p xs ≡ false → p y ≡ true → slice_split p (xs ++ y ∷ ys) ≡ xs ∷ slice_split p ys
+pub split_at : (p : ℕ → Bool) (xs : Text) (y : ℕ) (ys : Text) → list_any p xs ≡ false → p y ≡ true →
+    slice_split p (xs ++ y ∷ ys) ≡ xs ∷ slice_split p ys
 split_at p [] y ys h e = slice_split-cons_yes p y ys e
-split_at p (x ∷ xs) y ys h e = let q = or_false (p x) (list_any p xs) h in slice_split-cons_no p x (xs ++ y ∷ ys) q.0 ∙ ap (onto_first x) (split_at p xs y ys q.1 e)
+split_at p (x ∷ xs) y ys h e = let q = or_false (p x) (list_any p xs) h in
+    slice_split-cons_no p x (xs ++ y ∷ ys) q.0 ∙ ap (onto_first x) (split_at p xs y ys q.1 e)
 
 -- ---- lines
 
@@ -41,7 +44,8 @@ strip_ended line =
     let last : get_or (line ++ 13 ∷ []) (length line + 0) 0 ≡ 13 = get_or-append-add line (13 ∷ []) 0 0 in
     let zero : length line + 0 ≡ length line = omega arith in
     ap (λ k. cond (get_or (line ++ 13 ∷ []) k 0 == 13) (take k (line ++ 13 ∷ [])) (line ++ 13 ∷ [])) n
-    ∙ ap (λ c. cond (c == 13) (take (length line) (line ++ 13 ∷ [])) (line ++ 13 ∷ [])) (ap (λ k. get_or (line ++ 13 ∷ []) k 0) (sym zero) ∙ last)
+    ∙ ap (λ c. cond (c == 13) (take (length line) (line ++ 13 ∷ [])) (line ++ 13 ∷ []))
+        (ap (λ k. get_or (line ++ 13 ∷ []) k 0) (sym zero) ∙ last)
     ∙ take-append-le (length line) line (13 ∷ []) (omega arith) ∙ take_all (length line) line (omega arith)
 
 -- lines with their carriage returns, and nothing, are the lines
@@ -59,10 +63,14 @@ pub record IsTrim (text : Text) : Type 0 where
 
 pub trim_same : (text : Text) → IsTrim text → trimmed text ≡ text
 trim_same text h =
-    let front : prefix_len is_blank text ≡ 0 = prefix_len_is is_blank text 0 0 (omega arith) (λ k l. absurd (omega (arith, l))) h.front in
-    let back : suffix_len is_blank text ≡ length text - length text = suffix_len_is is_blank text (length text) 0 (omega arith) (λ k l m. absurd (omega (arith, l, m))) h.back in
+    let front : prefix_len is_blank text ≡ 0 = prefix_len_is is_blank text 0 0 (omega arith)
+        (λ k l. absurd (omega (arith, l))) h.front in
+    let back : suffix_len is_blank text ≡ length text - length text =
+        suffix_len_is is_blank text (length text) 0 (omega arith) (λ k l m. absurd (omega (arith, l, m)))
+        h.back in
     let whole : length text ≤ length text - suffix_len is_blank text = omega (arith, back) in
-    ap (λ k. take (length (drop k text) - suffix_len is_blank (drop k text)) (drop k text)) front ∙ take_all (length text - suffix_len is_blank text) text whole
+    ap (λ k. take (length (drop k text) - suffix_len is_blank (drop k text)) (drop k text)) front
+        ∙ take_all (length text - suffix_len is_blank text) text whole
 
 -- a field as a cfg may have it: it holds no comma and no line feed, and no blank stands at its ends
 pub record IsField (text : Text) : Type 0 where

@@ -6,21 +6,26 @@ use Rattle.pq_words.specs.Text.{Text, parted_at, trimmed}
 use Rattle.cfg_fields.specs.Fields.{fields_of}
 use Rattle.pq_time.proofs.FieldLemmas.{parts_cut, one_part, some_part}
 
-parts_before : (x : Text) (parts : List Text) → 0 < length parts → lines_of_parts (x ∷ parts) ≡ strip_carriage_return x ∷ lines_of_parts parts
+parts_before : (x : Text) (parts : List Text) → 0 < length parts → lines_of_parts (x ∷ parts)
+    ≡ strip_carriage_return x ∷ lines_of_parts parts
 parts_before x [] l = absurd (omega arith)
 parts_before x (y ∷ more) l = refl
 
--- where a line end is found, the first line is what stands before it, and the others are the lines of what stands after it
+-- where a line end is found, the first line is what stands before it, and the others are the lines of what
+-- stands after it
 pub lines_cut : (text : Text) (i : ℕ) → position (λ b. b == 10) text ≡ Some i
-    → lines text ≡ strip_carriage_return (take i text) ∷ lines (take (length text - (i + 1)) (drop (i + 1) text))
+    → lines text ≡ strip_carriage_return (take i text) ∷ lines
+        (take (length text - (i + 1)) (drop (i + 1) text))
 lines_cut text i e =
     let rest = take (length text - (i + 1)) (drop (i + 1) text) in
-    ap lines_of_parts (parts_cut 10 text i e) ∙ parts_before (take i text) (parted_at 10 rest) (omega (arith, some_part 10 rest))
+    ap lines_of_parts (parts_cut 10 text i e) ∙ parts_before (take i text) (parted_at 10 rest)
+        (omega (arith, some_part 10 rest))
 
 -- and where it is not, the text is the one line
 pub last_line : (text : Text) → 0 < length text → position (λ b. b == 10) text ≡ None → lines text ≡ text ∷ []
 last_line text some e =
-    ap lines_of_parts (one_part 10 text e) ∙ ap (λ t. cond t [] (text ∷ [])) (ne_eqb (length text) 0 (λ z. omega arith))
+    ap lines_of_parts (one_part 10 text e) ∙ ap (λ t. cond t [] (text ∷ []))
+        (ne_eqb (length text) 0 (λ z. omega arith))
 
 -- no text has no line
 pub no_line : (text : Text) → length text ≡ 0 → lines text ≡ []

@@ -10,7 +10,8 @@ pub same_ok : {A E : Type 0} {x y : A} → ◌≡◌ {A = Result A E} (Ok x) (Ok
 same_ok e = cc
 
 -- a step that found no fault, for what is shown of its value and of what came after it
-pub from_bind : {A B E : Type 0} (r : Result A E) (f : A → Result B E) (y : B) → (r >>= f) ≡ Ok y → {P : Type 0} → ((x : A) → r ≡ Ok x → f x ≡ Ok y → P) → P
+pub from_bind : {A B E : Type 0} (r : Result A E) (f : A → Result B E) (y : B) → (r >>= f) ≡ Ok y →
+    {P : Type 0} → ((x : A) → r ≡ Ok x → f x ≡ Ok y → P) → P
 from_bind r f y e g = let b = bind_ok r f y e in g b.0 b.1 b.2
 
 -- a step that finds no fault
@@ -25,7 +26,8 @@ pub record LineRead {A : Type 0} (rule : LineRule A) (start : Ahead) (y : A × A
   pub there : next_line start ≡ Ok (line, y.1)
   pub value : rule start.number (fields_of line) ≡ Ok y.0
 
-pub line_read : {A : Type 0} (rule : LineRule A) (start : Ahead) (y : A × Ahead) → on_line rule start ≡ Ok y → LineRead rule start y
+pub line_read : {A : Type 0} (rule : LineRule A) (start : Ahead) (y : A × Ahead) → on_line rule start ≡ Ok y →
+    LineRead rule start y
 line_read rule start y e =
     let line = bind_ok _ _ y e in
     let value = bind_ok _ _ y line.2 in

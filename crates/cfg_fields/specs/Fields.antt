@@ -1,4 +1,5 @@
--- The lines and fields of a cfg, and one rule for each kind of field (C37.111, configuration file; leniencies: profile).
+-- The lines and fields of a cfg, and one rule for each kind of field (C37.111, configuration file;
+-- leniencies: profile).
 use Rattle.std.specs.Prelude.{ℕ, ◌+◌, ◌-◌, ◌*◌, ◌^◌, Bool, not, ◌&&◌, ◌||◌, ◌==◌, nat_le, nat_lt, if◌then◌else◌, List, [], ◌∷◌, length, map, take, slice_index, ℤ, pos, negsuc, Option, Some, None, option_map, Result, Ok, Err, codes}
 use Rattle.std.specs.Option.{ok_or}
 use Rattle.std.specs.List.{list_any}
@@ -163,4 +164,5 @@ leap_field line field text = do
 
 -- a Time code, or `x`, which says that there is none
 abbrev pub local_code_of : Text → Option (Option ℤ)
-local_code_of text = if str_eq_ignore_ascii_case text (codes "x") then Some None else option_map (λ code. Some code) (code_of text)
+local_code_of text = if str_eq_ignore_ascii_case text (codes "x") then Some None else option_map
+    (λ code. Some code) (code_of text)

@@ -29,48 +29,60 @@ use Rattle.cfg_fields.proofs.WrittenFacts.{date_civil, IsClockTime, time_clock, 
 
 -- ---- channels
 
-counts_small : (line : ℕ) (fields : List Text) (n : ChannelCounts) → counts_line line fields ≡ Ok n → (n.analogue ≤ 999) × (n.status ≤ 999)
+counts_small : (line : ℕ) (fields : List Text) (n : ChannelCounts) → counts_line line fields ≡ Ok n →
+    (n.analogue ≤ 999) × (n.status ≤ 999)
 counts_small line [] n e = absurd cc
 counts_small line (a ∷ []) n e = absurd cc
 counts_small line (a ∷ b ∷ []) n e = absurd cc
 counts_small line (total ∷ analogue ∷ status ∷ []) n e =
-    from_bind (channel_count 65 quantity.Analogue line 2 analogue) _ n e (λ a a_is e. from_bind (channel_count 68 quantity.Status line 3 status) _ n e (λ d d_is e.
+    from_bind (channel_count 65 quantity.Analogue line 2 analogue) _ n e
+        (λ a a_is e. from_bind (channel_count 68 quantity.Status line 3 status) _ n e (λ d d_is e.
     from_bind (position_field (a + d) line 1 total) _ n e (λ t t_is e.
     let same_a : a ≡ n.analogue = ap (λ (n : ChannelCounts). n.analogue) (same_ok e) in
     let same_d : d ≡ n.status = ap (λ (n : ChannelCounts). n.status) (same_ok e) in
-    (omega (arith, same_a, (count_found 65 quantity.Analogue line 2 analogue a a_is).1), omega (arith, same_d, (count_found 68 quantity.Status line 3 status d d_is).1)))))
+    (omega (arith, same_a, (count_found 65 quantity.Analogue line 2 analogue a a_is).1),
+        omega (arith, same_d, (count_found 68 quantity.Status line 3 status d d_is).1)))))
 counts_small line (a ∷ b ∷ c ∷ d ∷ more) n e = absurd cc
 
 -- as many lines as were asked for
-pub channels_read : {A : Type 0} (rule : ℕ → LineRule A) (position n : ℕ) (start : Ahead) (y : List A × Ahead) → channel_lines rule position n start ≡ Ok y → length y.0 ≡ n
+pub channels_read : {A : Type 0} (rule : ℕ → LineRule A) (position n : ℕ) (start : Ahead) (y : List A × Ahead)
+    → channel_lines rule position n start ≡ Ok y → length y.0 ≡ n
 unfolding channel_lines
-channels_read {A} rule position zero start y e = let same : [] ≡ y.0 = ap (λ (z : List A × Ahead). z.0) (same_ok e) in ap length (sym same)
+channels_read {A} rule position zero start y e = let same : [] ≡ y.0 =
+    ap (λ (z : List A × Ahead). z.0) (same_ok e) in ap length (sym same)
 channels_read {A} rule position (suc n) start y e =
-    from_bind (on_line (rule position) start) _ y e (λ first first_is e. from_bind (channel_lines rule (position + 1) n first.1) _ y e (λ others others_is e.
+    from_bind (on_line (rule position) start) _ y e (λ first first_is e. from_bind
+        (channel_lines rule (position + 1) n first.1) _ y e (λ others others_is e.
     let same : first.0 ∷ others.0 ≡ y.0 = ap (λ (z : List A × Ahead). z.0) (same_ok e) in
     ap length (sym same) ∙ ap suc (channels_read rule (position + 1) n first.1 others others_is)))
 
 -- ---- frequency and rate
 
-frequency_line_read : (line : ℕ) (fields : List Text) (n : ℕ) → frequency_line line fields ≡ Ok n → (n ≡ 50) ⊎ (n ≡ 60)
+frequency_line_read : (line : ℕ) (fields : List Text) (n : ℕ) → frequency_line line fields ≡ Ok n →
+    (n ≡ 50) ⊎ (n ≡ 60)
 frequency_line_read line [] n e = absurd cc
 frequency_line_read line (lf ∷ []) n e = (frequency_found line 1 lf n e).1
 frequency_line_read line (a ∷ b ∷ more) n e = absurd cc
 
-rate_read : (lf line field : ℕ) (text : Text) (n : ℕ) → rate_field lf line field text ≡ Ok n → (16 * lf * 10 ^ 6 ≤ n) × (n ≤ 200_000_000_000)
+rate_read : (lf line field : ℕ) (text : Text) (n : ℕ) → rate_field lf line field text ≡ Ok n →
+    (16 * lf * 10 ^ 6 ≤ n) × (n ≤ 200_000_000_000)
 rate_read lf line field text n e =
-    let p = and_parts (nat_le (16 * lf * 10 ^ 6) n) (nat_le n 200000000000) (rate_found lf line field text n e).1 in
+    let p = and_parts (nat_le (16 * lf * 10 ^ 6) n) (nat_le n 200000000000)
+        (rate_found lf line field text n e).1 in
     (leb-true (16 * lf * 10 ^ 6) n p.0, leb-true n 200000000000 p.1)
 
-sampling_read : (lf line : ℕ) (fields : List Text) (s : Sampling) → sampling_line lf line fields ≡ Ok s → (16 * lf * 10 ^ 6 ≤ s.rate) × (s.rate ≤ 200_000_000_000) × (s.endsamp ≤ 50_000_000)
+sampling_read : (lf line : ℕ) (fields : List Text) (s : Sampling) → sampling_line lf line fields ≡ Ok s →
+    (16 * lf * 10 ^ 6 ≤ s.rate) × (s.rate ≤ 200_000_000_000) × (s.endsamp ≤ 50_000_000)
 sampling_read lf line [] s e = absurd cc
 sampling_read lf line (a ∷ []) s e = absurd cc
 sampling_read lf line (samp ∷ endsamp ∷ []) s e =
-    from_bind (rate_field lf line 1 samp) _ s e (λ rate rate_is e. from_bind (samples_field line 2 endsamp) _ s e (λ n n_is e.
+    from_bind (rate_field lf line 1 samp) _ s e (λ rate rate_is e. from_bind (samples_field line 2 endsamp) _
+        s e (λ n n_is e.
     let same_rate : rate ≡ s.rate = ap (λ (s : Sampling). s.rate) (same_ok e) in
     let same_n : n ≡ s.endsamp = ap (λ (s : Sampling). s.endsamp) (same_ok e) in
     let r = rate_read lf line 1 samp rate rate_is in
-    (omega (arith, same_rate, r.0), omega (arith, same_rate, r.1), omega (arith, same_n, (samples_found line 2 endsamp n n_is).1))))
+    (omega (arith, same_rate, r.0), omega (arith, same_rate, r.1),
+        omega (arith, same_n, (samples_found line 2 endsamp n n_is).1))))
 sampling_read lf line (a ∷ b ∷ c ∷ more) s e = absurd cc
 
 -- ---- moments
@@ -83,23 +95,28 @@ pub record IsRead (date time : Text) (written : ℤ) : Type 0 where
   pub clock_is : time_of time ≡ Some clock
   pub is : moment_at day clock ≡ written
 
-moment_of : (date time : Text) (d : Option CivilDate) (t : Option TimeOfDay) (written : ℤ) → date_of date ≡ d → time_of time ≡ t → moment_read d t ≡ Ok written → IsRead date time written
+moment_of : (date time : Text) (d : Option CivilDate) (t : Option TimeOfDay) (written : ℤ) → date_of date ≡ d
+    → time_of time ≡ t → moment_read d t ≡ Ok written → IsRead date time written
 moment_of date time None t written d_is t_is e = absurd cc
 moment_of date time (Some d) None written d_is t_is e = absurd cc
-moment_of date time (Some d) (Some t) written d_is t_is e = record { day = d; clock = t; day_is = d_is; clock_is = t_is; is = same_ok e }
+moment_of date time (Some d) (Some t) written d_is t_is e =
+    record { day = d; clock = t; day_is = d_is; clock_is = t_is; is = same_ok e }
 
-moment_fields_read : (line : ℕ) (r : Result ℤ BadMoment) (written : ℤ) → moment_fields line r ≡ Ok written → r ≡ Ok written
+moment_fields_read : (line : ℕ) (r : Result ℤ BadMoment) (written : ℤ) → moment_fields line r ≡ Ok written → r
+    ≡ Ok written
 moment_fields_read line (Ok m) written e = ap Ok (same_ok e)
 moment_fields_read line (Err bad.Date) written e = absurd cc
 moment_fields_read line (Err bad.Time) written e = absurd cc
 
 -- the two fields of a stamp line
-pub stamp_read : (line : ℕ) (fields : List Text) (written : ℤ) → stamp_line line fields ≡ Ok written → (date : Text) × (time : Text) × IsRead date time written
+pub stamp_read : (line : ℕ) (fields : List Text) (written : ℤ) → stamp_line line fields ≡ Ok written →
+    (date : Text) × (time : Text) × IsRead date time written
 unfolding written_moment
 stamp_read line [] written e = absurd cc
 stamp_read line (a ∷ []) written e = absurd cc
 stamp_read line (date ∷ time ∷ []) written e =
-    (date, time, moment_of date time (date_of date) (time_of time) written refl refl (moment_fields_read line (written_moment date time) written e))
+    (date, time, moment_of date time (date_of date) (time_of time) written refl refl
+        (moment_fields_read line (written_moment date time) written e))
 stamp_read line (a ∷ b ∷ c ∷ more) written e = absurd cc
 
 -- ---- the day of a date
@@ -113,9 +130,12 @@ pub record IsCivil (d : CivilDate) : Type 0 where
 
 pub civil : (d : CivilDate) → is_civil_date d ≡ true → IsCivil d
 civil d is =
-    let p = and_parts (nat_le 1900 d.year && nat_le d.year 2199) ((nat_le 1 d.month && nat_le d.month 12) && (nat_le 1 d.day && nat_le d.day (days_in_month (pos d.year) d.month))) is in
+    let p = and_parts (nat_le 1900 d.year && nat_le d.year 2199)
+        ((nat_le 1 d.month && nat_le d.month 12) && (nat_le 1 d.day && nat_le d.day
+        (days_in_month (pos d.year) d.month))) is in
     let y = and_parts (nat_le 1900 d.year) (nat_le d.year 2199) p.0 in
-    let q = and_parts (nat_le 1 d.month && nat_le d.month 12) (nat_le 1 d.day && nat_le d.day (days_in_month (pos d.year) d.month)) p.1 in
+    let q = and_parts (nat_le 1 d.month && nat_le d.month 12)
+        (nat_le 1 d.day && nat_le d.day (days_in_month (pos d.year) d.month)) p.1 in
     let m = and_parts (nat_le 1 d.month) (nat_le d.month 12) q.0 in
     let k = and_parts (nat_le 1 d.day) (nat_le d.day (days_in_month (pos d.year) d.month)) q.1 in
     record {
@@ -138,14 +158,16 @@ date_in d c = record {
 
 -- its day number
 pub day_between : (d : CivilDate) → IsCivil d → IsBetween (neg_ℤ (pos 25_567)) (pos 84_005) (day_number d)
-day_between d c = written_day (date_in d c) (omega (arith, signed_arith, c.from)) (omega (arith, signed_arith, c.until))
+day_between d c = written_day (date_in d c) (omega (arith, signed_arith, c.from))
+    (omega (arith, signed_arith, c.until))
 
 -- a time of day is less than a day
 pub nanoseconds_bound : (t : TimeOfDay) → IsClockTime t → nanoseconds_in_day t < 86_400_000_000_000
 nanoseconds_bound t c = omega (arith, c.hour, c.minute, c.second, c.nanosecond)
 
 -- a moment from 1900 to 2199
-pub moment_within : (d : CivilDate) (t : TimeOfDay) → IsCivil d → IsClockTime t → IsWithin (7_300 * 10 ^ 15) (moment_at d t)
+pub moment_within : (d : CivilDate) (t : TimeOfDay) → IsCivil d → IsClockTime t →
+    IsWithin (7_300 * 10 ^ 15) (moment_at d t)
 moment_within d t civil clock =
     let day = day_between d civil in
     let rest = nanoseconds_bound t clock in
@@ -153,19 +175,23 @@ moment_within d t civil clock =
 
 -- ---- zones
 
-codes_small : (line : ℕ) (fields : List Text) (x : ℤ × Option ℤ) → time_code_line line fields ≡ Ok x → IsWithin 899 x.0
+codes_small : (line : ℕ) (fields : List Text) (x : ℤ × Option ℤ) → time_code_line line fields ≡ Ok x →
+    IsWithin 899 x.0
 codes_small line [] x e = absurd cc
 codes_small line (a ∷ []) x e = absurd cc
 codes_small line (time_code ∷ local_code ∷ []) x e =
-    from_bind (field_or_fault line 1 (code_of time_code)) _ x e (λ t t_is e. from_bind (field_or_fault line 2 (local_code_of local_code)) _ x e (λ l l_is e.
+    from_bind (field_or_fault line 1 (code_of time_code)) _ x e
+        (λ t t_is e. from_bind (field_or_fault line 2 (local_code_of local_code)) _ x e (λ l l_is e.
     let same : t ≡ x.0 = ap (λ (x : ℤ × Option ℤ). x.0) (same_ok e) in
     subst (IsWithin 899) same (code_small time_code t (some_ok (code_of time_code) _ t t_is))))
 codes_small line (a ∷ b ∷ c ∷ more) x e = absurd cc
 
 -- the offset of written moments is less than 15 hours to either side
-pub offset_small : (is_2013 : Bool) (start : Ahead) (y : Option Zone × Ahead) → zone_lines is_2013 start ≡ Ok y → IsWithin 899 (offset_of y.0)
+pub offset_small : (is_2013 : Bool) (start : Ahead) (y : Option Zone × Ahead) → zone_lines is_2013 start
+    ≡ Ok y → IsWithin 899 (offset_of y.0)
 offset_small true start y e =
-    from_bind (on_line time_code_line start) _ y e (λ codes codes_is e. from_bind (on_line time_quality_line codes.1) _ y e (λ quality quality_is e.
+    from_bind (on_line time_code_line start) _ y e (λ codes codes_is e. from_bind
+        (on_line time_quality_line codes.1) _ y e (λ quality quality_is e.
     let r = line_read time_code_line start codes codes_is in
     let same : codes.0.0 ≡ offset_of y.0 = ap (λ (y : Option Zone × Ahead). offset_of y.0) (same_ok e) in
     subst (IsWithin 899) same (codes_small start.number (fields_of r.line) codes.0 r.value)))
@@ -183,25 +209,32 @@ hexadecimal_small (c ∷ []) n e = at (nat_lt (digit_value c) 16) refl e
 hexadecimal_small (c ∷ d ∷ more) n e = absurd cc
 
 -- the time quality of a line is a hexadecimal digit
-pub quality_small : (line : ℕ) (fields : List Text) (x : ℕ × ℕ) → time_quality_line line fields ≡ Ok x → x.0 < 16
+pub quality_small : (line : ℕ) (fields : List Text) (x : ℕ × ℕ) → time_quality_line line fields ≡ Ok x →
+    x.0 < 16
 quality_small line [] x e = absurd cc
 quality_small line (a ∷ []) x e = absurd cc
 quality_small line (tmq_code ∷ leapsec ∷ []) x e =
-    from_bind (field_or_fault line 1 (hexadecimal tmq_code)) _ x e (λ q q_is e. from_bind (leap_field line 2 leapsec) _ x e (λ l l_is e.
+    from_bind (field_or_fault line 1 (hexadecimal tmq_code)) _ x e
+        (λ q q_is e. from_bind (leap_field line 2 leapsec) _ x e (λ l l_is e.
     let same : q ≡ x.0 = ap (λ (x : ℕ × ℕ). x.0) (same_ok e) in
     omega (arith, same, hexadecimal_small tmq_code q (some_ok (hexadecimal tmq_code) _ q q_is))))
 quality_small line (a ∷ b ∷ c ∷ more) x e = absurd cc
 
 -- the time quality is one hexadecimal digit
-pub zone_quality : (is_2013 : Bool) (start : Ahead) (y : Option Zone × Ahead) → zone_lines is_2013 start ≡ Ok y → ForSome y.0 (λ z. z.quality < 16)
+pub zone_quality : (is_2013 : Bool) (start : Ahead) (y : Option Zone × Ahead) → zone_lines is_2013 start
+    ≡ Ok y → ForSome y.0 (λ z. z.quality < 16)
 zone_quality true start y e z there =
-    from_bind (on_line time_code_line start) _ y e (λ codes codes_is e. from_bind (on_line time_quality_line codes.1) _ y e (λ quality quality_is e.
+    from_bind (on_line time_code_line start) _ y e (λ codes codes_is e. from_bind
+        (on_line time_quality_line codes.1) _ y e (λ quality quality_is e.
     let r = line_read time_quality_line codes.1 quality quality_is in
-    let zone : Zone = record { time_code = codes.0.0; local_code = codes.0.1; quality = quality.0.0; leap = quality.0.1 } in
+    let zone : Zone = record { time_code = codes.0.0; local_code = codes.0.1; quality = quality.0.0; leap =
+        quality.0.1 } in
     let same : Some zone ≡ Some z = ap (λ (y : Option Zone × Ahead). y.0) (same_ok e) ∙ there in
     let is : zone ≡ z = cc in
-    subst (λ (z : Zone). z.quality < 16) is (quality_small codes.1.number (fields_of r.line) quality.0 r.value)))
-zone_quality false start y e z there = absurd (let same : None ≡ Some z = ap (λ (y : Option Zone × Ahead). y.0) (same_ok e) ∙ there in cc)
+    subst (λ (z : Zone). z.quality < 16) is (quality_small codes.1.number (fields_of r.line) quality.0
+        r.value)))
+zone_quality false start y e z there = absurd (let same : None ≡ Some z =
+    ap (λ (y : Option Zone × Ahead). y.0) (same_ok e) ∙ there in cc)
 
 -- ---- the whole
 
@@ -218,16 +251,19 @@ pub record IsBounded (c : Configuration) : Type 0 where
   pub offset : IsWithin 899 (offset_of c.zone)
   pub quality : ForSome c.zone (λ z. z.quality < 16)
 
-utc_within : (written minutes : ℤ) → IsWithin (7_300 * 10 ^ 15) written → IsWithin 899 minutes → IsWithin (8 * 10 ^ 18) (utc_of written minutes)
+utc_within : (written minutes : ℤ) → IsWithin (7_300 * 10 ^ 15) written → IsWithin 899 minutes →
+    IsWithin (8 * 10 ^ 18) (utc_of written minutes)
 utc_within written minutes w m = omega (arith, signed_arith, w, m)
 
 -- a moment that was read
-pub stamp_within : (start : Ahead) (y : ℤ × Ahead) → on_line stamp_line start ≡ Ok y → IsWithin (7_300 * 10 ^ 15) y.0
+pub stamp_within : (start : Ahead) (y : ℤ × Ahead) → on_line stamp_line start ≡ Ok y →
+    IsWithin (7_300 * 10 ^ 15) y.0
 stamp_within start y e =
     let r = line_read stamp_line start y e in
     let s = stamp_read start.number (fields_of r.line) y.0 r.value in
     let m = s.2 in
-    subst (IsWithin (7_300 * 10 ^ 15)) m.is (moment_within m.day m.clock (civil m.day (date_civil s.0 m.day m.day_is)) (time_clock s.1 m.clock m.clock_is))
+    subst (IsWithin (7_300 * 10 ^ 15)) m.is (moment_within m.day m.clock
+        (civil m.day (date_civil s.0 m.day m.day_is)) (time_clock s.1 m.clock m.clock_is))
 
 -- what was read from lines is bounded
 pub bounded : (start : Ahead) (c : Configuration) → LinesRead start c → IsBounded c
@@ -248,17 +284,20 @@ bounded start c r =
       analogue = omega (arith, few, analogue);
       status = omega (arith, few, status);
       first = utc_within r.first.0 (offset_of r.zone.0) (stamp_within r.sampling.1 r.first r.first_is) offset;
-      trigger = utc_within r.trigger.0 (offset_of r.zone.0) (stamp_within r.first.1 r.trigger r.trigger_is) offset;
+      trigger = utc_within r.trigger.0 (offset_of r.zone.0) (stamp_within r.first.1 r.trigger r.trigger_is)
+          offset;
       offset = offset;
       quality = zone_quality (r.station.0.revision == 2013) r.timemult.1 r.zone r.zone_is;
     })
 
 -- a configuration that a text says was read from lines
-pub from_text : (text : Text) (c : Configuration) → configuration_of text ≡ Ok c → (length text ≤ 1_048_576) × LinesRead (ahead_of text) c
+pub from_text : (text : Text) (c : Configuration) → configuration_of text ≡ Ok c → (length text ≤ 1_048_576) ×
+    LinesRead (ahead_of text) c
 unfolding configuration_of
 from_text text c e = at (nat_le (length text) 1048576) refl e
   where
-    at : (b : Bool) → nat_le (length text) 1048576 ≡ b → cond b (configuration_ahead (ahead_of text)) (Err (fault.Limit quantity.CfgBytes 0)) ≡ Ok c
+    at : (b : Bool) → nat_le (length text) 1048576 ≡ b →
+        cond b (configuration_ahead (ahead_of text)) (Err (fault.Limit quantity.CfgBytes 0)) ≡ Ok c
         → (length text ≤ 1_048_576) × LinesRead (ahead_of text) c
     at true is e = (leb-true (length text) 1048576 is, lines_read (ahead_of text) c e)
     at false is e = absurd cc

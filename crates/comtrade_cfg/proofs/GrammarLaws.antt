@@ -15,15 +15,18 @@ pub reads_the_grammar : ReadsTheGrammar
 reads_the_grammar = record { found = GrammarFound.found; only = GrammarOnly.only }
 
 -- an answer that gives what the text says is in the grammar
-pub found_by : (result : Result Cfg CfgFault) (text : Text) → GivesCfg result text → IfOk result (λ cfg. IsCfgText text (view cfg))
+pub found_by : (result : Result Cfg CfgFault) (text : Text) → GivesCfg result text →
+    IfOk result (λ cfg. IsCfgText text (view cfg))
 found_by (Ok cfg) text gives = GrammarFound.found text (view cfg) gives
 found_by (Err e) text gives = tt
 
-no_fault : (text : Text) (c : Configuration) (e : CfgFault) → configuration_of text ≡ Ok c → configuration_of text ≡ Err e → ⊥
+no_fault : (text : Text) (c : Configuration) (e : CfgFault) → configuration_of text ≡ Ok c →
+    configuration_of text ≡ Err e → ⊥
 no_fault text c e says refuses = let same : Ok c ≡ Err e = sym says ∙ refuses in absurd cc
 
 -- and no text in it is refused, want of memory apart
-pub only_by : (result : Result Cfg CfgFault) (text : Text) → GivesCfg result text → (c : Configuration) → IsCfgText text c → IfErr result (λ e. e ≡ fault.OutOfMemory)
+pub only_by : (result : Result Cfg CfgFault) (text : Text) → GivesCfg result text → (c : Configuration) →
+    IsCfgText text c → IfErr result (λ e. e ≡ fault.OutOfMemory)
 only_by (Ok cfg) text gives c is = tt
 only_by (Err e) text (inl free) c is = free
 only_by (Err e) text (inr refuses) c is = absurd (no_fault text c e (GrammarOnly.only text c is) refuses)

@@ -74,4 +74,9 @@ lines_read start c e =
     from_bind _ _ c after_file_type (λ timemult timemult_is after_timemult.
     from_bind _ _ c after_timemult (λ zone zone_is after_zone.
     from_bind _ _ c after_zone (λ ended ended_is after_ended.
-    record { station = station; counts = counts; analogue = analogue; status = status; lf = lf; rates = rates; sampling = sampling; first = first; trigger = trigger; file_type = file_type; timemult = timemult; zone = zone; station_is = station_is; counts_is = counts_is; analogue_is = analogue_is; status_is = status_is; lf_is = lf_is; rates_is = rates_is; sampling_is = sampling_is; first_is = first_is; trigger_is = trigger_is; file_type_is = file_type_is; timemult_is = timemult_is; zone_is = zone_is; ended_is = ended_is; is = same_ok after_ended })))))))))))))
+    record { station = station; counts = counts; analogue = analogue; status = status; lf = lf; rates = rates;
+        sampling = sampling; first = first; trigger = trigger; file_type = file_type; timemult = timemult;
+        zone = zone; station_is = station_is; counts_is = counts_is; analogue_is = analogue_is; status_is =
+        status_is; lf_is = lf_is; rates_is = rates_is; sampling_is = sampling_is; first_is = first_is;
+        trigger_is = trigger_is; file_type_is = file_type_is; timemult_is = timemult_is; zone_is = zone_is;
+        ended_is = ended_is; is = same_ok after_ended })))))))))))))

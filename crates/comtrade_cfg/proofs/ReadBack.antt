@@ -46,32 +46,43 @@ utc_again utc minutes = omega (arith, signed_arith)
 abbrev tail_lines : Configuration → List Text
 tail_lines c =
     decimal c.lf ∷ decimal 1 ∷ row_of (rate_text c.rate ∷ decimal c.endsamp ∷ [])
-    ∷ stamp_text (written_of c.first (offset_of c.zone)) ∷ stamp_text (written_of c.trigger (offset_of c.zone))
+    ∷ stamp_text (written_of c.first (offset_of c.zone)) ∷ stamp_text
+        (written_of c.trigger (offset_of c.zone))
     ∷ file_type_text c.file_type ∷ c.timemult ∷ zone_rows c.zone
 
 -- all lines
 abbrev all_lines : Configuration → List Text
 all_lines c =
     row_of (c.station ∷ c.device ∷ decimal c.revision ∷ [])
-    ∷ row_of (decimal (length c.analogue + length c.status) ∷ (decimal (length c.analogue) ++ 65 ∷ []) ∷ (decimal (length c.status) ++ 68 ∷ []) ∷ [])
-    ∷ (numbered_rows 1 (map analogue_fields c.analogue) ++ (numbered_rows 1 (map status_fields c.status) ++ tail_lines c))
+    ∷ row_of (decimal (length c.analogue + length c.status) ∷ (decimal (length c.analogue) ++ 65 ∷ []) ∷
+        (decimal (length c.status) ++ 68 ∷ []) ∷ [])
+    ∷ (numbered_rows 1 (map analogue_fields c.analogue)
+        ++ (numbered_rows 1 (map status_fields c.status) ++ tail_lines c))
 
 grouped : (c : Configuration) → canonical_lines c ≡ all_lines c
 grouped c =
-    ap (λ more. row_of (c.station ∷ c.device ∷ decimal c.revision ∷ []) ∷ row_of (decimal (length c.analogue + length c.status) ∷ (decimal (length c.analogue) ++ 65 ∷ []) ∷ (decimal (length c.status) ++ 68 ∷ []) ∷ []) ∷ more)
-    (append_assoc (numbered_rows 1 (map analogue_fields c.analogue)) (numbered_rows 1 (map status_fields c.status)) (tail_lines c))
+    ap (λ more. row_of (c.station ∷ c.device ∷ decimal c.revision ∷ []) ∷ row_of
+        (decimal (length c.analogue + length c.status) ∷ (decimal (length c.analogue) ++ 65 ∷ []) ∷
+        (decimal (length c.status) ++ 68 ∷ []) ∷ []) ∷ more)
+    (append_assoc (numbered_rows 1 (map analogue_fields c.analogue))
+        (numbered_rows 1 (map status_fields c.status)) (tail_lines c))
 
 -- each of them is read
-whole : (c : Configuration) → IsGood c → configuration_ahead (record { number = 1; lines = all_lines c }) ≡ Ok c
+whole : (c : Configuration) → IsGood c → configuration_ahead (record { number = 1; lines = all_lines c })
+    ≡ Ok c
 whole c g =
     let b = g.bounds in
     let tail : List Text = tail_lines c in
     let status_lines : List Text = numbered_rows 1 (map status_fields c.status) ++ tail in
     let analogue_lines : List Text = numbered_rows 1 (map analogue_fields c.analogue) ++ status_lines in
-    let station = station_back 1 c.station c.device c.revision (row_of (decimal (length c.analogue + length c.status) ∷ (decimal (length c.analogue) ++ 65 ∷ []) ∷ (decimal (length c.status) ++ 68 ∷ []) ∷ []) ∷ analogue_lines) g.station g.device g.revision in
+    let station = station_back 1 c.station c.device c.revision
+        (row_of (decimal (length c.analogue + length c.status) ∷ (decimal (length c.analogue) ++ 65 ∷ []) ∷
+        (decimal (length c.status) ++ 68 ∷ []) ∷ []) ∷ analogue_lines) g.station g.device g.revision in
     let counts = counts_back 2 (length c.analogue) (length c.status) analogue_lines b.analogue b.status in
-    let analogue = channels_back analogue_line analogue_fields IsGoodAnalogue analogue_are_fields analogue_value 1 3 c.analogue status_lines g.analogue (omega (arith, b.analogue)) in
-    let status = channels_back status_line status_fields IsGoodStatus status_are_fields status_value 1 analogue.0 c.status tail g.status (omega (arith, b.status)) in
+    let analogue = channels_back analogue_line analogue_fields IsGoodAnalogue analogue_are_fields
+        analogue_value 1 3 c.analogue status_lines g.analogue (omega (arith, b.analogue)) in
+    let status = channels_back status_line status_fields IsGoodStatus status_are_fields status_value 1
+        analogue.0 c.status tail g.status (omega (arith, b.status)) in
     let n : ℕ = status.0 in
     let first : ℤ = written_of c.first (offset_of c.zone) in
     let trigger : ℤ = written_of c.trigger (offset_of c.zone) in
@@ -84,13 +95,18 @@ whole c g =
     let rates_rest : List Text = row_of (rate_text c.rate ∷ decimal c.endsamp ∷ []) ∷ sampling_rest in
     let lf_rest : List Text = decimal 1 ∷ rates_rest in
     all_read (record { number = 1; lines = all_lines c }) c (record {
-      station = (record { station = c.station; device = c.device; revision = c.revision }, record { number = 2; lines = row_of (decimal (length c.analogue + length c.status) ∷ (decimal (length c.analogue) ++ 65 ∷ []) ∷ (decimal (length c.status) ++ 68 ∷ []) ∷ []) ∷ analogue_lines });
-      counts = (record { analogue = length c.analogue; status = length c.status }, record { number = 3; lines = analogue_lines });
+      station = (record { station = c.station; device = c.device; revision = c.revision },
+          record { number = 2; lines = row_of (decimal (length c.analogue + length c.status) ∷
+          (decimal (length c.analogue) ++ 65 ∷ []) ∷ (decimal (length c.status) ++ 68 ∷ []) ∷ []) ∷
+          analogue_lines });
+      counts = (record { analogue = length c.analogue; status = length c.status },
+          record { number = 3; lines = analogue_lines });
       analogue = (c.analogue, record { number = analogue.0; lines = status_lines });
       status = (c.status, record { number = n; lines = tail });
       lf = (c.lf, record { number = n + 1; lines = lf_rest });
       rates = (1, record { number = n + 1 + 1; lines = rates_rest });
-      sampling = (record { rate = c.rate; endsamp = c.endsamp }, record { number = n + 1 + 1 + 1; lines = sampling_rest });
+      sampling = (record { rate = c.rate; endsamp = c.endsamp },
+          record { number = n + 1 + 1 + 1; lines = sampling_rest });
       first = (first, record { number = n + 1 + 1 + 1 + 1; lines = first_rest });
       trigger = (trigger, record { number = n + 1 + 1 + 1 + 1 + 1; lines = trigger_rest });
       file_type = (c.file_type, record { number = n + 1 + 1 + 1 + 1 + 1 + 1; lines = type_rest });
@@ -102,7 +118,8 @@ whole c g =
       status_is = status.1;
       lf_is = frequency_back n c.lf lf_rest b.lf;
       rates_is = rates_back (n + 1) rates_rest;
-      sampling_is = sampling_back c.lf (n + 1 + 1) c.rate c.endsamp sampling_rest b.slowest b.fastest b.endsamp;
+      sampling_is = sampling_back c.lf (n + 1 + 1) c.rate c.endsamp sampling_rest b.slowest b.fastest
+          b.endsamp;
       first_is = stamp_back (n + 1 + 1 + 1) first first_rest g.first;
       trigger_is = stamp_back (n + 1 + 1 + 1 + 1) trigger trigger_rest g.trigger;
       file_type_is = file_type_back (n + 1 + 1 + 1 + 1 + 1) c.file_type type_rest;
@@ -154,11 +171,14 @@ lines_free c g =
       (
         row_free (decimal 1) [] (decimal_field_of 1 (omega arith), tt),
         (
-          row_free (rate_text c.rate) (decimal c.endsamp ∷ []) (sampling_are_fields c.rate c.endsamp b.fastest b.endsamp),
+          row_free (rate_text c.rate) (decimal c.endsamp ∷ [])
+              (sampling_are_fields c.rate c.endsamp b.fastest b.endsamp),
           (
-            row_free (date_text (date_shown first)) (time_text (time_shown first) ∷ []) (stamp_are_fields first),
+            row_free (date_text (date_shown first)) (time_text (time_shown first) ∷ [])
+                (stamp_are_fields first),
             (
-              row_free (date_text (date_shown trigger)) (time_text (time_shown trigger) ∷ []) (stamp_are_fields trigger),
+              row_free (date_text (date_shown trigger)) (time_text (time_shown trigger) ∷ [])
+                  (stamp_are_fields trigger),
               (
                 row_free (file_type_text c.file_type) [] (file_type_is_field c.file_type),
                 (row_free c.timemult [] (g.timemult.field, tt), zone_free (c.revision == 2013) c.zone g.zone),
@@ -168,10 +188,16 @@ lines_free c g =
         ),
       ),
     ) in
-    let status = channels_free status_line status_fields IsGoodStatus status_are_fields status_value 1 c.status (tail_lines c) g.status (omega (arith, b.status)) tail in
-    let analogue = channels_free analogue_line analogue_fields IsGoodAnalogue analogue_are_fields analogue_value 1 c.analogue (numbered_rows 1 (map status_fields c.status) ++ tail_lines c) g.analogue (omega (arith, b.analogue)) status in (
-      row_free c.station (c.device ∷ decimal c.revision ∷ []) (station_is_fields c.station c.device c.revision g.station g.device g.revision),
-      (row_free (decimal (length c.analogue + length c.status)) ((decimal (length c.analogue) ++ 65 ∷ []) ∷ (decimal (length c.status) ++ 68 ∷ []) ∷ []) (counts_are_fields (length c.analogue) (length c.status) b.analogue b.status), analogue),
+    let status = channels_free status_line status_fields IsGoodStatus status_are_fields status_value 1
+        c.status (tail_lines c) g.status (omega (arith, b.status)) tail in
+    let analogue = channels_free analogue_line analogue_fields IsGoodAnalogue analogue_are_fields
+        analogue_value 1 c.analogue (numbered_rows 1 (map status_fields c.status) ++ tail_lines c) g.analogue
+        (omega (arith, b.analogue)) status in (
+      row_free c.station (c.device ∷ decimal c.revision ∷ [])
+          (station_is_fields c.station c.device c.revision g.station g.device g.revision),
+      (row_free (decimal (length c.analogue + length c.status))
+          ((decimal (length c.analogue) ++ 65 ∷ []) ∷ (decimal (length c.status) ++ 68 ∷ []) ∷ [])
+          (counts_are_fields (length c.analogue) (length c.status) b.analogue b.status), analogue),
     )
 
 -- the law of printing
@@ -179,7 +205,9 @@ pub reads_back : ReadsBack
 unfolding canonical_text configuration_of
 reads_back c says few =
     let g = configuration_good c says in
-    let text : lines (canonical_text c) ≡ all_lines c = ap (λ ls. lines (lines_text ls)) (grouped c) ∙ lines_back (all_lines c) (lines_free c g) in
-    ap (λ b. cond b (configuration_ahead (ahead_of (canonical_text c))) (Err (fault.Limit quantity.CfgBytes 0))) (le-leb (length (canonical_text c)) 1048576 few)
+    let text : lines (canonical_text c) ≡ all_lines c = ap (λ ls. lines (lines_text ls)) (grouped c)
+        ∙ lines_back (all_lines c) (lines_free c g) in
+    ap (λ b. cond b (configuration_ahead (ahead_of (canonical_text c)))
+        (Err (fault.Limit quantity.CfgBytes 0))) (le-leb (length (canonical_text c)) 1048576 few)
     ∙ ap (λ ls. configuration_ahead (record { number = 1; lines = ls })) text
     ∙ whole c g

@@ -28,7 +28,8 @@ date_text d = padded 2 d.day ++ 47 ∷ padded 2 d.month ++ 47 ∷ padded 4 d.yea
 
 -- six digits after the point, nine where the nanoseconds aren't whole microseconds
 abbrev pub fraction_text : ℕ → Text
-fraction_text nanoseconds = if nanoseconds % 1000 == 0 then padded 6 (nanoseconds / 1000) else padded 9 nanoseconds
+fraction_text nanoseconds = if nanoseconds % 1000 == 0 then padded 6 (nanoseconds / 1000) else padded 9
+    nanoseconds
 
 -- `hh:mm:ss` and the fraction
 abbrev pub time_text : TimeOfDay → Text
@@ -40,7 +41,8 @@ stamp_text written = row_of (date_text (date_shown written) ∷ time_text (time_
 
 -- hours, and `h` with two digits where the minutes aren't 0
 abbrev pub offset_text : ℕ → Text
-offset_text minutes = decimal (minutes / 60) ++ (if minutes % 60 == 0 then [] else 104 ∷ padded 2 (minutes % 60))
+offset_text minutes = decimal (minutes / 60) ++ (if minutes % 60 == 0 then [] else 104 ∷ padded 2
+    (minutes % 60))
 
 -- a time code: an optional `-`, and the offset
 abbrev pub code_text : ℤ → Text
@@ -57,7 +59,8 @@ file_type_text Binary = codes "BINARY"
 
 -- the fields behind the position of an analogue channel
 abbrev pub analogue_fields : Analogue → List Text
-analogue_fields c = c.id ∷ c.phase ∷ c.component ∷ c.unit ∷ c.a ∷ c.b ∷ c.skew ∷ c.least ∷ c.greatest ∷ c.primary ∷ c.secondary ∷ c.side ∷ []
+analogue_fields c = c.id ∷ c.phase ∷ c.component ∷ c.unit ∷ c.a ∷ c.b ∷ c.skew ∷ c.least ∷ c.greatest ∷
+    c.primary ∷ c.secondary ∷ c.side ∷ []
 
 -- the fields behind the position of a status channel
 abbrev pub status_fields : StatusLine → List Text
@@ -66,7 +69,8 @@ status_fields c = c.id ∷ c.phase ∷ c.component ∷ c.normal ∷ []
 -- the channels' lines, each with its position from this one on
 abbrev pub numbered_rows : ℕ → List (List Text) → List Text
 numbered_rows position [] = []
-numbered_rows position (fields ∷ more) = row_of (decimal position ∷ fields) ∷ numbered_rows (position + 1) more
+numbered_rows position (fields ∷ more) = row_of (decimal position ∷ fields) ∷ numbered_rows (position + 1)
+    more
 
 -- the two lines that revision 2013 has behind timemult
 abbrev pub zone_rows : Option Zone → List Text
@@ -79,7 +83,8 @@ zone_rows (Some z) =
 abbrev pub canonical_lines : Configuration → List Text
 canonical_lines c =
     row_of (c.station ∷ c.device ∷ decimal c.revision ∷ [])
-    ∷ row_of (decimal (length c.analogue + length c.status) ∷ (decimal (length c.analogue) ++ 65 ∷ []) ∷ (decimal (length c.status) ++ 68 ∷ []) ∷ [])
+    ∷ row_of (decimal (length c.analogue + length c.status) ∷ (decimal (length c.analogue) ++ 65 ∷ []) ∷
+        (decimal (length c.status) ++ 68 ∷ []) ∷ [])
     ∷ numbered_rows 1 (map analogue_fields c.analogue)
     ++ numbered_rows 1 (map status_fields c.status)
     ++ decimal c.lf
@@ -95,6 +100,8 @@ canonical_lines c =
 unfoldable pub canonical_text : Configuration → Text
 canonical_text c = flat_map (λ line. line ++ 13 ∷ 10 ∷ []) (canonical_lines c)
 
--- the law of printing: what a configuration is printed as says that configuration, within the limit of a cfg's bytes
+-- the law of printing: what a configuration is printed as says that configuration, within the limit of a
+-- cfg's bytes
 abbrev pub ReadsBack : Type 0
-ReadsBack = (c : Configuration) → IsConfiguration c → length (canonical_text c) ≤ 1048576 → IsCfgOf (canonical_text c) c
+ReadsBack = (c : Configuration) → IsConfiguration c → length (canonical_text c) ≤ 1048576 →
+    IsCfgOf (canonical_text c) c

@@ -29,7 +29,8 @@ station_text c = ended (row_of (c.station ∷ c.device ∷ decimal c.revision �
 
 -- the numbers of channels line, for so many of each kind
 abbrev pub counts_text : ℕ → ℕ → Text
-counts_text analogue status = ended (row_of (decimal (analogue + status) ∷ (decimal analogue ++ 65 ∷ []) ∷ (decimal status ++ 68 ∷ []) ∷ []))
+counts_text analogue status = ended (row_of (decimal (analogue + status) ∷ (decimal analogue ++ 65 ∷ []) ∷
+    (decimal status ++ 68 ∷ []) ∷ []))
 
 -- the analogue channel lines
 abbrev pub analogue_text : List Analogue → Text
@@ -41,11 +42,13 @@ status_text channels = lines_text (numbered_rows 1 (map status_fields channels))
 
 -- the line frequency line, the number of sampling rates line and the sampling rate line
 abbrev pub sampling_text : Configuration → Text
-sampling_text c = ended (decimal c.lf) ++ ended (decimal 1) ++ ended (row_of (rate_text c.rate ∷ decimal c.endsamp ∷ []))
+sampling_text c = ended (decimal c.lf) ++ ended (decimal 1)
+    ++ ended (row_of (rate_text c.rate ∷ decimal c.endsamp ∷ []))
 
 -- the two date/time stamp lines
 abbrev pub moments_text : Configuration → Text
-moments_text c = ended (stamp_text (written_of c.first (offset_of c.zone))) ++ ended (stamp_text (written_of c.trigger (offset_of c.zone)))
+moments_text c = ended (stamp_text (written_of c.first (offset_of c.zone)))
+    ++ ended (stamp_text (written_of c.trigger (offset_of c.zone)))
 
 -- the data file type line and the time stamp multiplication factor line
 abbrev pub form_text : Configuration → Text

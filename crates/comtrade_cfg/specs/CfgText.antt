@@ -1,4 +1,5 @@
--- A cfg as a text: its lines in order, the first fault, and the configuration that a good text says (C37.111, configuration file).
+-- A cfg as a text: its lines in order, the first fault, and the configuration that a good text says (C37.111,
+-- configuration file).
 use Rattle.std.specs.Prelude.{◌≡◌, ℕ, zero, suc, ◌+◌, Bool, true, false, ◌||◌, ◌==◌, nat_le, if◌then◌else◌, List, [], ◌∷◌, length, ℤ, pos, Option, Some, None, Result, Ok, Err, codes}
 use Rattle.std.specs.Option.{option_map_or}
 use Rattle.std.specs.Str.{str_eq_ignore_ascii_case}
@@ -29,7 +30,8 @@ station_fields line station device revision = do
   s ← text_field line 1 station
   d ← text_field line 2 device
   r ← number_field line 3 revision
-  provided ((r == 1999) || (r == 2013)) (fault.Unsupported unsupported.Revision line) (record { station = s; device = d; revision = r })
+  provided ((r == 1999) || (r == 2013)) (fault.Unsupported unsupported.Revision line)
+      (record { station = s; device = d; revision = r })
 
 -- the station line. With two fields alone it is of an earlier revision
 abbrev pub station_line : ℕ → List Text → Result Station CfgFault
@@ -46,8 +48,10 @@ counts_line line (total ∷ analogue ∷ status ∷ []) = do
   Ok (record { analogue = a; status = d })
 counts_line line _ = Err (fault.Line line)
 
--- the fields of an analogue channel line: An, id, phase, component, unit, a, b, skew, min, max, primary, secondary, PS
-unfoldable pub analogue_fields : ℕ → ℕ → (an id phase component unit a b skew min max primary secondary ps : Text) → Result Analogue CfgFault
+-- the fields of an analogue channel line: An, id, phase, component, unit, a, b, skew, min, max, primary,
+-- secondary, PS
+unfoldable pub analogue_fields : ℕ → ℕ → (an id phase component unit a b skew min max primary secondary ps :
+    Text) → Result Analogue CfgFault
 analogue_fields position line an id phase component unit a b skew min max primary secondary ps = do
   n ← position_field position line 1 an
   id ← text_field line 2 id
@@ -62,11 +66,13 @@ analogue_fields position line an id phase component unit a b skew min max primar
   primary ← text_field line 11 primary
   secondary ← text_field line 12 secondary
   side ← text_field line 13 ps
-  Ok (record { id = id; phase = phase; component = component; unit = unit; a = a; b = b; skew = skew; least = least; greatest = greatest; primary = primary; secondary = secondary; side = side })
+  Ok (record { id = id; phase = phase; component = component; unit = unit; a = a; b = b; skew = skew; least =
+      least; greatest = greatest; primary = primary; secondary = secondary; side = side })
 
 -- an analogue channel line
 abbrev pub analogue_line : ℕ → ℕ → List Text → Result Analogue CfgFault
-analogue_line position line (an ∷ id ∷ phase ∷ component ∷ unit ∷ a ∷ b ∷ skew ∷ min ∷ max ∷ primary ∷ secondary ∷ ps ∷ []) =
+analogue_line position line (an ∷ id ∷ phase ∷ component ∷ unit ∷ a ∷ b ∷ skew ∷ min ∷ max ∷ primary ∷
+    secondary ∷ ps ∷ []) =
     analogue_fields position line an id phase component unit a b skew min max primary secondary ps
 analogue_line position line _ = Err (fault.Line line)
 
@@ -82,11 +88,13 @@ status_fields position line dn id phase component normal = do
 
 -- a status channel line
 abbrev pub status_line : ℕ → ℕ → List Text → Result StatusLine CfgFault
-status_line position line (dn ∷ id ∷ phase ∷ component ∷ normal ∷ []) = status_fields position line dn id phase component normal
+status_line position line (dn ∷ id ∷ phase ∷ component ∷ normal ∷ []) =
+    status_fields position line dn id phase component normal
 status_line position line _ = Err (fault.Line line)
 
 -- the lines of n channels, the first of them at this position
-unfoldable pub channel_lines : {A : Type 0} → (ℕ → ℕ → List Text → Result A CfgFault) → ℕ → ℕ → Ahead → Reading (List A)
+unfoldable pub channel_lines : {A : Type 0} → (ℕ → ℕ → List Text → Result A CfgFault) → ℕ → ℕ → Ahead →
+    Reading (List A)
 channel_lines rule position zero ahead = Ok ([], ahead)
 channel_lines rule position (suc n) ahead = do
   first ← on_line (rule position) ahead
@@ -120,13 +128,15 @@ stamp_line line _ = Err (fault.Line line)
 
 -- a file type that COMTRADE knows and this program doesn't
 abbrev pub is_other_file_type : Text → Bool
-is_other_file_type text = list_any (str_eq_ignore_ascii_case text) (codes "ASCII" ∷ codes "BINARY32" ∷ codes "FLOAT32" ∷ [])
+is_other_file_type text = list_any (str_eq_ignore_ascii_case text)
+    (codes "ASCII" ∷ codes "BINARY32" ∷ codes "FLOAT32" ∷ [])
 
 -- the data file type line: ft
 abbrev pub file_type_line : ℕ → List Text → Result FileType CfgFault
 file_type_line line (ft ∷ []) =
     if str_eq_ignore_ascii_case ft (codes "BINARY") then Ok Binary
-    else (if is_other_file_type ft then Err (fault.Unsupported unsupported.FileType line) else Err (fault.Field line 1))
+    else (if is_other_file_type ft then Err (fault.Unsupported unsupported.FileType line) else Err
+        (fault.Field line 1))
 file_type_line line _ = Err (fault.Line line)
 
 -- the time stamp multiplication factor line: timemult, which keeps its spelling
@@ -156,7 +166,8 @@ zone_lines is_2013 ahead = elim is_2013 [
   | true ↦ (do
     codes ← on_line time_code_line ahead
     quality ← on_line time_quality_line codes.1
-    Ok (Some (record { time_code = codes.0.0; local_code = codes.0.1; quality = quality.0.0; leap = quality.0.1 }), quality.1))
+    Ok (Some (record { time_code = codes.0.0; local_code = codes.0.1; quality = quality.0.0; leap =
+        quality.0.1 }), quality.1))
   | false ↦ Ok (None, ahead)
 ]
 
@@ -199,7 +210,8 @@ configuration_ahead ahead = do
 -- the configuration that a text says, or its first fault
 unfoldable pub configuration_of : Text → Result Configuration CfgFault
 configuration_of text =
-    if nat_le (length text) 1048576 then configuration_ahead (ahead_of text) else Err (fault.Limit quantity.CfgBytes 0)
+    if nat_le (length text) 1048576 then configuration_ahead (ahead_of text) else Err
+        (fault.Limit quantity.CfgBytes 0)
 
 -- the text is a cfg, and says this
 abbrev pub IsCfgOf : Text → Configuration → Type 0

@@ -7,7 +7,8 @@ use Rattle.comtrade_cfg.specs.declared.cfg.Zone.{Zone}
 use Rattle.comtrade_cfg.specs.declared.cfg.FileType.{FileType}
 use Rattle.comtrade_cfg.specs.declared.cfg.Cfg.{Cfg}
 
--- a cfg without where it lies in memory: its two moments in UTC, nanoseconds since 1970; its rate in microhertz
+-- a cfg without where it lies in memory: its two moments in UTC, nanoseconds since 1970; its rate in
+-- microhertz
 pub record Configuration : Type 0 where
   pub station : Text
   pub device : Text

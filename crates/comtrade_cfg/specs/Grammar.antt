@@ -1,4 +1,5 @@
--- Which texts are cfgs and what they say, line by line, apart from any order of reading (C37.111, configuration file).
+-- Which texts are cfgs and what they say, line by line, apart from any order of reading (C37.111,
+-- configuration file).
 use Rattle.std.specs.Prelude.{◌≡◌, ℕ, ◌+◌, ◌-◌, ◌*◌, ◌^◌, ◌≤◌, ◌⊎◌, List, [], ◌∷◌, length, ℤ, pos, Option, Some, None, slice_get, Ok, codes, IsTrue, IsSome}
 use Rattle.std.specs.Option.{option_map_or}
 use Rattle.std.specs.Str.{str_eq_ignore_ascii_case}
@@ -42,9 +43,11 @@ pub record IsCountsLine (fields : List Text) (analogue status : ℕ) : Type 0 wh
 -- An, id, phase, component, unit, a, b, skew, min, max, primary, secondary, PS
 pub record IsAnalogueLine (position : ℕ) (fields : List Text) (ch : Analogue) : Type 0 where
   pub an : Text
-  pub fields_are : fields ≡ an ∷ ch.id ∷ ch.phase ∷ ch.component ∷ ch.unit ∷ ch.a ∷ ch.b ∷ ch.skew ∷ ch.least ∷ ch.greatest ∷ ch.primary ∷ ch.secondary ∷ ch.side ∷ []
+  pub fields_are : fields ≡ an ∷ ch.id ∷ ch.phase ∷ ch.component ∷ ch.unit ∷ ch.a ∷ ch.b ∷ ch.skew ∷ ch.least
+      ∷ ch.greatest ∷ ch.primary ∷ ch.secondary ∷ ch.side ∷ []
   pub an_is : number an ≡ Some position
-  pub texts : AllByRecursion IsTextField (ch.id ∷ ch.phase ∷ ch.component ∷ ch.unit ∷ ch.skew ∷ ch.least ∷ ch.greatest ∷ ch.primary ∷ ch.secondary ∷ ch.side ∷ [])
+  pub texts : AllByRecursion IsTextField (ch.id ∷ ch.phase ∷ ch.component ∷ ch.unit ∷ ch.skew ∷ ch.least ∷
+      ch.greatest ∷ ch.primary ∷ ch.secondary ∷ ch.side ∷ [])
   pub a_is : IsSome (decimal_of ch.a)
   pub b_is : IsSome (decimal_of ch.b)
 
@@ -131,8 +134,10 @@ last_line c = after_channels c + 6 + option_map_or (λ z. 2) c.zone 0
 pub record LinesSay (text : List Text) (c : Configuration) : Type 0 where
   pub station : IsStationLine (fields_at text 1) c
   pub counts : IsCountsLine (fields_at text 2) (length c.analogue) (length c.status)
-  pub analogue : (k : ℕ) (ch : Analogue) → slice_get c.analogue k ≡ Some ch → IsAnalogueLine (k + 1) (fields_at text (k + 3)) ch
-  pub status : (k : ℕ) (ch : StatusLine) → slice_get c.status k ≡ Some ch → IsStatusLine (k + 1) (fields_at text (k + 3 + length c.analogue)) ch
+  pub analogue : (k : ℕ) (ch : Analogue) → slice_get c.analogue k ≡ Some ch →
+      IsAnalogueLine (k + 1) (fields_at text (k + 3)) ch
+  pub status : (k : ℕ) (ch : StatusLine) → slice_get c.status k ≡ Some ch →
+      IsStatusLine (k + 1) (fields_at text (k + 3 + length c.analogue)) ch
   pub frequency : IsFrequencyLine (fields_at text (after_channels c)) c.lf
   pub rates : IsRatesLine (fields_at text (after_channels c + 1))
   pub sampling : IsSamplingLine (fields_at text (after_channels c + 2)) c
@@ -140,8 +145,10 @@ pub record LinesSay (text : List Text) (c : Configuration) : Type 0 where
   pub trigger : IsStampLine (fields_at text (after_channels c + 4)) (written_of c.trigger (offset_of c.zone))
   pub file_type : IsFileTypeLine (fields_at text (after_channels c + 5))
   pub timemult : IsTimemultLine (fields_at text (after_channels c + 6)) c.timemult
-  pub zone : HasZoneLines c.revision (fields_at text (after_channels c + 7)) (fields_at text (after_channels c + 8)) c.zone
-  pub blank : (k : ℕ) (line : Text) → last_line c ≤ k → slice_get text k ≡ Some line → IsTrue (is_all_blank line)
+  pub zone : HasZoneLines c.revision (fields_at text (after_channels c + 7))
+      (fields_at text (after_channels c + 8)) c.zone
+  pub blank : (k : ℕ) (line : Text) → last_line c ≤ k → slice_get text k ≡ Some line →
+      IsTrue (is_all_blank line)
 
 -- the text is a cfg that says this configuration
 pub record IsCfgText (text : Text) (c : Configuration) : Type 0 where

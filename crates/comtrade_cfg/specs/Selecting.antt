@@ -40,7 +40,8 @@ channel_numbered channels n = if n == 0 then None else slice_get channels (n - 1
 
 -- the channel of this number is there and in V or kV
 abbrev pub is_voltage_channel : List Analogue → ℕ → Bool
-is_voltage_channel channels n = option_map_or (λ c. is_some (unit_power c.unit)) (channel_numbered channels n) false
+is_voltage_channel channels n = option_map_or (λ c. is_some (unit_power c.unit)) (channel_numbered channels n)
+    false
 
 -- the numbers of all channels in V or kV, rising
 abbrev pub voltage_channels : List Analogue → List ℕ
@@ -62,11 +63,13 @@ chosen_after channels good (n ∷ wanted) = do
 abbrev pub positions_of : List Analogue → List ℕ → List ℕ
 positions_of channels numbers = filter (λ p. is_among numbers (p + 1)) (range_with_len 0 (length channels))
 
--- the line of the first chosen channel past the value limit is the fault; the first analogue channel line is line 3
+-- the line of the first chosen channel past the value limit is the fault; the first analogue channel line is
+-- line 3
 abbrev pub values_within_limit : List Analogue → List ℕ → Result (Unit {0}) SelectFault
 values_within_limit channels [] = Ok tt
 values_within_limit channels (p ∷ positions) =
-    if option_map_or is_within_value_limit (slice_get channels p) true then values_within_limit channels positions
+    if option_map_or is_within_value_limit (slice_get channels p) true then values_within_limit channels
+        positions
     else Err (fault.Value (p + 3))
 
 -- a selection without where it lies in memory
@@ -103,4 +106,5 @@ GivesSelection result read = Gives seen result read
 
 -- a selection that `select` gives of a configuration
 abbrev pub IsSelectionOf : Configuration → Selected → Type 0
-IsSelectionOf c s = (wanted : Option (List ℕ)) × (reference : Option ℕ) × (selected_of c wanted reference ≡ Ok s)
+IsSelectionOf c s = (wanted : Option (List ℕ)) × (reference : Option ℕ) ×
+    (selected_of c wanted reference ≡ Ok s)

@@ -12,7 +12,8 @@ use Rattle.pq_words.specs.First.{first_of, first_between}
 use Rattle.pq_words.specs.Successors.{successors}
 
 -- an open event tells what is known of it
-open_only : (kind : Kind) (r s : Option Running) → option_to_list (option_map (open_at kind 0) r) ≡ option_to_list (option_map (open_at kind 0) s) → r ≡ s
+open_only : (kind : Kind) (r s : Option Running) → option_to_list (option_map (open_at kind 0) r)
+    ≡ option_to_list (option_map (open_at kind 0) s) → r ≡ s
 open_only kind r s same = sym (back r) ∙ ap known_in same ∙ back s
   where
     known_in : List Event → Option Running
@@ -28,10 +29,12 @@ pub running_is : (w : Watch) (fed : List Condition) → HasSeen w fed → w.runn
 running_is w fed seen =
     let left = option_to_list (option_map (open_at w.kind 0) w.running) in
     let right = option_to_list (option_map (open_at w.kind 0) (open_event w.kind fed)) in
-    open_only w.kind w.running (open_event w.kind fed) (append_cancel_left (ended_events w.kind fed) left right (sym (seen 0) ∙ events_split w.kind 0 fed))
+    open_only w.kind w.running (open_event w.kind fed)
+        (append_cancel_left (ended_events w.kind fed) left right (sym (seen 0) ∙ events_split w.kind 0 fed))
 
 has_seen : (w : Watch) (fed : List Condition) → w.running ≡ open_event w.kind fed → HasSeen w fed
-has_seen w fed is n = events_split w.kind n fed ∙ ap (λ o. ended_events w.kind fed ++ option_to_list (option_map (open_at w.kind n) o)) (sym is)
+has_seen w fed is n = events_split w.kind n fed ∙ ap
+    (λ o. ended_events w.kind fed ++ option_to_list (option_map (open_at w.kind n) o)) (sym is)
 
 nothing_open : (kind : Kind) → None ≡ open_event kind []
 unfolding extents event_from successors first_between first_of
@@ -42,17 +45,21 @@ pub nothing_seen : (w : Watch) → w.running ≡ None → HasSeen w []
 nothing_seen w none = has_seen w [] (none ∙ nothing_open w.kind)
 
 -- the answer to one more condition
-ends_of : (w : Watch) (c : Condition) (answer : Option Event) → ended_event w.kind c.ends c w.running ≡ answer → Ends w c answer
+ends_of : (w : Watch) (c : Condition) (answer : Option Event) → ended_event w.kind c.ends c w.running ≡ answer
+    → Ends w c answer
 ends_of w c answer is fed seen =
     ended_events_push w.kind fed c
-    ∙ ap (λ o. ended_events w.kind fed ++ option_to_list (ended_event w.kind c.ends c o)) (sym (running_is w fed seen))
+    ∙ ap (λ o. ended_events w.kind fed ++ option_to_list (ended_event w.kind c.ends c o))
+        (sym (running_is w fed seen))
     ∙ ap (λ o. ended_events w.kind fed ++ option_to_list o) is
 
 -- what runs after one more condition
-sees_of : (w : Watch) (c : Condition) (o : Option Running) → next_event w.kind c.begins c.ends c w.running ≡ o → SeesMore w (record { kind = w.kind; running = o }) c
+sees_of : (w : Watch) (c : Condition) (o : Option Running) → next_event w.kind c.begins c.ends c w.running ≡ o
+    → SeesMore w (record { kind = w.kind; running = o }) c
 sees_of w c o is fed seen =
     has_seen (record { kind = w.kind; running = o }) (fed ++ c ∷ [])
-    (sym is ∙ ap (next_event w.kind c.begins c.ends c) (running_is w fed seen) ∙ sym (open_event_push w.kind fed c))
+    (sym is ∙ ap (next_event w.kind c.begins c.ends c) (running_is w fed seen)
+        ∙ sym (open_event_push w.kind fed c))
 
 abbrev pub watch : Kind → Option Running → Watch
 watch kind o = record { kind = kind; running = o }
@@ -64,67 +71,89 @@ abbrev pub shown : Kept → Running
 shown r = record { start = r.start; channel = r.channel; value = r.value }
 
 -- a detector, by what was found in its field
-pub parts : (kind : Kind) (field found : Option Kept) (w : Watch) → field ≡ found → watch kind (option_map shown field) ≡ w → watch kind (option_map shown found) ≡ w
+pub parts : (kind : Kind) (field found : Option Kept) (w : Watch) → field ≡ found →
+    watch kind (option_map shown field) ≡ w → watch kind (option_map shown found) ≡ w
 parts kind field found w is view = sym (ap (λ o. watch kind (option_map shown o)) is) ∙ view
 
-step_ends : (w : Watch) (kind : Kind) (o : Option Running) (c : Condition) (answer : Option Event) → watch kind o ≡ w → ended_event kind c.ends c o ≡ answer → Ends w c answer
-step_ends w kind o c answer is ended = let P : Watch → Type 0 = λ w. Ends w c answer in subst P is (ends_of (watch kind o) c answer ended)
+step_ends : (w : Watch) (kind : Kind) (o : Option Running) (c : Condition) (answer : Option Event) →
+    watch kind o ≡ w → ended_event kind c.ends c o ≡ answer → Ends w c answer
+step_ends w kind o c answer is ended = let P : Watch → Type 0 = λ w. Ends w c answer in
+    subst P is (ends_of (watch kind o) c answer ended)
 
-step_sees : (w : Watch) (kind : Kind) (o next : Option Running) (c : Condition) → watch kind o ≡ w → next_event kind c.begins c.ends c o ≡ next → SeesMore w (watch kind next) c
-step_sees w kind o next c is goes_on = let P : Watch → Type 0 = λ w. SeesMore w (watch kind next) c in subst P is (sees_of (watch kind o) c next goes_on)
+step_sees : (w : Watch) (kind : Kind) (o next : Option Running) (c : Condition) → watch kind o ≡ w →
+    next_event kind c.begins c.ends c o ≡ next → SeesMore w (watch kind next) c
+step_sees w kind o next c is goes_on = let P : Watch → Type 0 = λ w. SeesMore w (watch kind next) c in
+    subst P is (sees_of (watch kind o) c next goes_on)
 
 -- where none runs, none ends
 pub idle_ends : (w : Watch) (kind : Kind) (c : Condition) → watch kind None ≡ w → Ends w c None
 idle_ends w kind c is = step_ends w kind None c None is refl
 
-pub idle_begins : (w : Watch) (kind : Kind) (c : Condition) → watch kind None ≡ w → c.begins ≡ true → SeesMore w (watch kind (Some (begun c))) c
-idle_begins w kind c is begins = step_sees w kind None (Some (begun c)) c is (ap (λ b. cond b (Some (begun c)) None) begins)
+pub idle_begins : (w : Watch) (kind : Kind) (c : Condition) → watch kind None ≡ w → c.begins ≡ true →
+    SeesMore w (watch kind (Some (begun c))) c
+idle_begins w kind c is begins = step_sees w kind None (Some (begun c)) c is
+    (ap (λ b. cond b (Some (begun c)) None) begins)
 
-pub idle_stays : (w : Watch) (kind : Kind) (c : Condition) → watch kind None ≡ w → c.begins ≡ false → SeesMore w w c
+pub idle_stays : (w : Watch) (kind : Kind) (c : Condition) → watch kind None ≡ w → c.begins ≡ false →
+    SeesMore w w c
 idle_stays w kind c is stays =
     let P : Watch → Type 0 = λ v. SeesMore w v c in
     subst P is (step_sees w kind None None c is (ap (λ b. cond b (Some (begun c)) None) stays))
 
 -- one that runs ends
-pub running_ends : (w : Watch) (kind : Kind) (r next : Running) (c : Condition) (answer : Event) → watch kind (Some r) ≡ w → c.ends ≡ true
-    → with_seen kind r c.channel (seen_value c) ≡ next → answer ≡ closed_at kind c.window.end next → Ends w c (Some answer)
+pub running_ends : (w : Watch) (kind : Kind) (r next : Running) (c : Condition) (answer : Event) →
+    watch kind (Some r) ≡ w → c.ends ≡ true
+    → with_seen kind r c.channel (seen_value c) ≡ next → answer ≡ closed_at kind c.window.end next →
+        Ends w c (Some answer)
 running_ends w kind r next c answer is ends more closed =
     step_ends w kind (Some r) c (Some answer) is
-    (ap (λ e. cond e (Some (closed_at kind c.window.end (with_seen kind r c.channel (seen_value c)))) None) ends
+    (ap (λ e. cond e (Some (closed_at kind c.window.end (with_seen kind r c.channel (seen_value c)))) None)
+        ends
     ∙ ap (λ r. Some (closed_at kind c.window.end r)) more
     ∙ ap Some (sym closed))
 
-pub running_stops : (w : Watch) (kind : Kind) (r : Running) (c : Condition) → watch kind (Some r) ≡ w → c.ends ≡ true → SeesMore w (watch kind None) c
-running_stops w kind r c is ends = step_sees w kind (Some r) None c is (ap (λ e. cond e None (Some (with_seen kind r c.channel (seen_value c)))) ends)
+pub running_stops : (w : Watch) (kind : Kind) (r : Running) (c : Condition) → watch kind (Some r) ≡ w → c.ends
+    ≡ true → SeesMore w (watch kind None) c
+running_stops w kind r c is ends = step_sees w kind (Some r) None c is
+    (ap (λ e. cond e None (Some (with_seen kind r c.channel (seen_value c)))) ends)
 
 -- or goes on
-pub running_stays : (w : Watch) (kind : Kind) (r : Running) (c : Condition) → watch kind (Some r) ≡ w → c.ends ≡ false → Ends w c None
+pub running_stays : (w : Watch) (kind : Kind) (r : Running) (c : Condition) → watch kind (Some r) ≡ w → c.ends
+    ≡ false → Ends w c None
 running_stays w kind r c is stays =
-    step_ends w kind (Some r) c None is (ap (λ e. cond e (Some (closed_at kind c.window.end (with_seen kind r c.channel (seen_value c)))) None) stays)
+    step_ends w kind (Some r) c None is (ap (λ e. cond e
+        (Some (closed_at kind c.window.end (with_seen kind r c.channel (seen_value c)))) None) stays)
 
-pub running_goes_on : (w : Watch) (kind : Kind) (r next : Running) (c : Condition) → watch kind (Some r) ≡ w → c.ends ≡ false
+pub running_goes_on : (w : Watch) (kind : Kind) (r next : Running) (c : Condition) → watch kind (Some r) ≡ w →
+    c.ends ≡ false
     → with_seen kind r c.channel (seen_value c) ≡ next → SeesMore w (watch kind (Some next)) c
 running_goes_on w kind r next c is stays more =
-    step_sees w kind (Some r) (Some next) c is (ap (λ e. cond e None (Some (with_seen kind r c.channel (seen_value c)))) stays ∙ ap Some more)
+    step_sees w kind (Some r) (Some next) c is (ap (λ e. cond e None
+        (Some (with_seen kind r c.channel (seen_value c)))) stays ∙ ap Some more)
 
 -- what is known after one more window, part by part
 pub with_parts : (kind : Kind) (r next : Running) (channel value : ℕ) → next.start ≡ r.start
-    → next.channel ≡ cond (is_worse kind value r.value) channel r.channel → next.value ≡ cond (is_worse kind value r.value) value r.value
+    → next.channel ≡ cond (is_worse kind value r.value) channel r.channel → next.value
+        ≡ cond (is_worse kind value r.value) value r.value
     → with_seen kind r channel value ≡ next
 with_parts kind r next channel value start_is channel_is value_is =
     at (is_worse kind value r.value)
-    ∙ sym (ap (λ n. made n next.channel next.value) start_is ∙ ap (λ n. made r.start n next.value) channel_is ∙ ap (made r.start (cond (is_worse kind value r.value) channel r.channel)) value_is)
+    ∙ sym (ap (λ n. made n next.channel next.value) start_is ∙ ap (λ n. made r.start n next.value) channel_is
+        ∙ ap (made r.start (cond (is_worse kind value r.value) channel r.channel)) value_is)
   where
     made : ℕ → ℕ → ℕ → Running
     made start channel value = record { start = start; channel = channel; value = value }
 
-    at : (b : Bool) → cond b (made r.start channel value) r ≡ made r.start (cond b channel r.channel) (cond b value r.value)
+    at : (b : Bool) → cond b (made r.start channel value) r
+        ≡ made r.start (cond b channel r.channel) (cond b value r.value)
     at true = refl
     at false = refl
 
 -- where the event that runs began
-pub starts_open : (w : Watch) (answer : Option ℕ) → answer ≡ option_map (λ r. r.start) w.running → StartsOpen w answer
-starts_open w answer is fed seen = is ∙ ap (option_map (λ (r : Running). r.start)) (running_is w fed seen) ∙ sym (open_start_is w.kind fed)
+pub starts_open : (w : Watch) (answer : Option ℕ) → answer ≡ option_map (λ r. r.start) w.running →
+    StartsOpen w answer
+starts_open w answer is fed seen = is ∙ ap (option_map (λ (r : Running). r.start)) (running_is w fed seen)
+    ∙ sym (open_start_is w.kind fed)
 
 -- every detector has seen some list
 pub seen_some : (w : Watch) → (fed : List Condition) × HasSeen w fed
@@ -133,5 +162,6 @@ seen_some w = at w.kind w.running
     at : (kind : Kind) (o : Option Running) → (fed : List Condition) × HasSeen (watch kind o) fed
     at kind None = ([], nothing_seen (watch kind None) refl)
     at kind (Some r) =
-        let c : Condition = record { begins = true; ends = false; channel = r.channel; window = record { start = r.start; end = 0; value = r.value } } in
+        let c : Condition = record { begins = true; ends = false; channel = r.channel; window =
+            record { start = r.start; end = 0; value = r.value } } in
         (c ∷ [], idle_begins (watch kind None) kind c refl refl [] (nothing_seen (watch kind None) refl))

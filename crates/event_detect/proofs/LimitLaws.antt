@@ -10,16 +10,19 @@ use Rattle.event_detect.specs.Threshold.{IsInRange, IsSound, IsInOrder, IsApart,
 more : (udin a b : ℕ) → 1 ≤ udin → a < b → udin * a < udin * b
 more udin a b some less = mul-lt-mul_of_pos_left less some
 
-pub limits_in_order : (settings : Settings) → IsInRange settings → IsSound settings → IsInOrder (limits_of settings)
+pub limits_in_order : (settings : Settings) → IsInRange settings → IsSound settings →
+    IsInOrder (limits_of settings)
 unfolding limits_of
 limits_in_order s range sound =
     let some = range.some_udin in
     record {
-      interruption = more s.udin_mv s.interruption (s.interruption + s.hysteresis) some (omega (arith, sound.hysteresis));
+      interruption = more s.udin_mv s.interruption (s.interruption + s.hysteresis) some
+          (omega (arith, sound.hysteresis));
       between = more s.udin_mv (s.interruption + s.hysteresis) s.dip some sound.interruption;
       dip = more s.udin_mv s.dip (s.dip + s.hysteresis) some (omega (arith, sound.hysteresis));
       apart = more s.udin_mv (s.dip + s.hysteresis) (s.swell - s.hysteresis) some sound.apart;
-      swell = more s.udin_mv (s.swell - s.hysteresis) s.swell some (omega (arith, sound.hysteresis, sound.apart));
+      swell = more s.udin_mv (s.swell - s.hysteresis) s.swell some
+          (omega (arith, sound.hysteresis, sound.apart));
     }
 
 -- of thresholds in order, no value both begins and ends an event of one kind

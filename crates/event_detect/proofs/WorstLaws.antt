@@ -16,7 +16,8 @@ self_not_worse Dip a = grind (arith, nat_tests)
 self_not_worse Swell a = grind (arith, nat_tests)
 self_not_worse Interruption a = grind (arith, nat_tests)
 
-not_worse_through : (kind : Kind) (a b c : ℕ) → is_worse kind a b ≡ false → is_worse kind b c ≡ false → is_worse kind a c ≡ false
+not_worse_through : (kind : Kind) (a b c : ℕ) → is_worse kind a b ≡ false → is_worse kind b c ≡ false →
+    is_worse kind a c ≡ false
 not_worse_through Dip a b c h g = grind (arith, nat_tests)
 not_worse_through Swell a b c h g = grind (arith, nat_tests)
 not_worse_through Interruption a b c h g = grind (arith, nat_tests)
@@ -45,25 +46,32 @@ keep kind a c = cond (is_worse kind (seen_value c) (seen_value a)) c a
 abbrev pub first_worst : Kind → Condition → List Condition → Condition
 first_worst kind x xs = fold (keep kind) x xs
 
-value_of_either : (b : Bool) (c a : Condition) → cond b (seen_value c) (seen_value a) ≡ seen_value (cond b c a)
+value_of_either : (b : Bool) (c a : Condition) → cond b (seen_value c) (seen_value a)
+    ≡ seen_value (cond b c a)
 value_of_either true c a = refl
 value_of_either false c a = refl
 
-worst_value : (kind : Kind) (x : Condition) (xs : List Condition) → worst kind (map seen_value (x ∷ xs)) ≡ seen_value (first_worst kind x xs)
+worst_value : (kind : Kind) (x : Condition) (xs : List Condition) → worst kind (map seen_value (x ∷ xs))
+    ≡ seen_value (first_worst kind x xs)
 worst_value kind x [] = refl
 worst_value kind x (y ∷ ys) =
-    ap (λ v. fold (worse kind) v (map seen_value ys)) (worse_is kind (seen_value x) (seen_value y) ∙ value_of_either (is_worse kind (seen_value y) (seen_value x)) y x)
+    ap (λ v. fold (worse kind) v (map seen_value ys))
+        (worse_is kind (seen_value x) (seen_value y) ∙ value_of_either
+        (is_worse kind (seen_value y) (seen_value x)) y x)
     ∙ worst_value kind (keep kind x y) ys
 
 -- the worst is at least as bad as the first
-at_least : (kind : Kind) (x : Condition) (xs : List Condition) → is_worse kind (seen_value x) (seen_value (first_worst kind x xs)) ≡ false
+at_least : (kind : Kind) (x : Condition) (xs : List Condition) →
+    is_worse kind (seen_value x) (seen_value (first_worst kind x xs)) ≡ false
 at_least kind x [] = self_not_worse kind (seen_value x)
-at_least kind x (y ∷ ys) = at (is_worse kind (seen_value y) (seen_value x)) refl (at_least kind (keep kind x y) ys)
+at_least kind x (y ∷ ys) = at (is_worse kind (seen_value y) (seen_value x)) refl
+    (at_least kind (keep kind x y) ys)
   where
     at : (b : Bool) → is_worse kind (seen_value y) (seen_value x) ≡ b
         → is_worse kind (seen_value (cond b y x)) (seen_value (first_worst kind (cond b y x) ys)) ≡ false
         → is_worse kind (seen_value x) (seen_value (first_worst kind (cond b y x) ys)) ≡ false
-    at true is later = not_worse_through kind (seen_value x) (seen_value y) (seen_value (first_worst kind y ys)) (worse_then_not kind (seen_value y) (seen_value x) is) later
+    at true is later = not_worse_through kind (seen_value x) (seen_value y)
+        (seen_value (first_worst kind y ys)) (worse_then_not kind (seen_value y) (seen_value x) is) later
     at false is later = later
 
 abbrev has_value : Condition → Condition → Bool
@@ -73,38 +81,51 @@ both_ways : (b : Bool) → b ≡ true → b ≡ false → ⊥
 both_ways b holds fails = cc
 
 -- one before the first worst is passed over
-found_later : (kind : Kind) (x y : Condition) (ys : List Condition) (w : Condition) → is_worse kind (seen_value y) (seen_value x) ≡ true → is_worse kind (seen_value y) (seen_value w) ≡ false
+found_later : (kind : Kind) (x y : Condition) (ys : List Condition) (w : Condition) →
+    is_worse kind (seen_value y) (seen_value x) ≡ true → is_worse kind (seen_value y) (seen_value w) ≡ false
     → find (has_value w) (y ∷ ys) ≡ Some w → find (has_value w) (x ∷ y ∷ ys) ≡ Some w
 found_later kind x y ys w worse least later =
-    let apart : seen_value x ≡ seen_value w → ⊥ = λ e. both_ways (is_worse kind (seen_value y) (seen_value w)) (subst (λ v. is_worse kind (seen_value y) v ≡ true) e worse) least in
-    ap (λ b. cond b (Some x) (find (has_value w) (y ∷ ys))) (ne_eqb (seen_value x) (seen_value w) apart) ∙ later
+    let apart : seen_value x ≡ seen_value w → ⊥ = λ e. both_ways (is_worse kind (seen_value y) (seen_value w))
+        (subst (λ v. is_worse kind (seen_value y) v ≡ true) e worse) least in
+    ap (λ b. cond b (Some x) (find (has_value w) (y ∷ ys))) (ne_eqb (seen_value x) (seen_value w) apart)
+        ∙ later
 
 -- one that is not worse than the one before it is not found in its place
-found_before : (kind : Kind) (x y : Condition) (ys : List Condition) (w : Condition) (b : Bool) → has_value w x ≡ b
-    → is_worse kind (seen_value y) (seen_value x) ≡ false → is_worse kind (seen_value x) (seen_value w) ≡ false
-    → cond b (Some x) (find (has_value w) ys) ≡ Some w → cond b (Some x) (find (has_value w) (y ∷ ys)) ≡ Some w
+found_before : (kind : Kind) (x y : Condition) (ys : List Condition) (w : Condition) (b : Bool) →
+    has_value w x ≡ b
+    → is_worse kind (seen_value y) (seen_value x) ≡ false → is_worse kind (seen_value x) (seen_value w)
+        ≡ false
+    → cond b (Some x) (find (has_value w) ys) ≡ Some w → cond b (Some x) (find (has_value w) (y ∷ ys))
+        ≡ Some w
 found_before kind x y ys w true has no_worse least found = found
 found_before kind x y ys w false has no_worse least found =
     let apart : seen_value y ≡ seen_value w → ⊥ = λ e.
-    eqb-false (seen_value x) (seen_value w) has (neither_worse kind (seen_value x) (seen_value y) (subst (λ v. is_worse kind (seen_value x) v ≡ false) (sym e) least) no_worse ∙ e) in
+    eqb-false (seen_value x) (seen_value w) has (neither_worse kind (seen_value x) (seen_value y)
+        (subst (λ v. is_worse kind (seen_value x) v ≡ false) (sym e) least) no_worse ∙ e) in
     ap (λ b. cond b (Some y) (find (has_value w) ys)) (ne_eqb (seen_value y) (seen_value w) apart) ∙ found
 
-found : (kind : Kind) (x : Condition) (xs : List Condition) → find (has_value (first_worst kind x xs)) (x ∷ xs) ≡ Some (first_worst kind x xs)
+found : (kind : Kind) (x : Condition) (xs : List Condition) →
+    find (has_value (first_worst kind x xs)) (x ∷ xs) ≡ Some (first_worst kind x xs)
 found kind x [] = ap (λ b. cond b (Some x) None) (eq-eqb (seen_value x) (seen_value x) refl)
-found kind x (y ∷ ys) = at (is_worse kind (seen_value y) (seen_value x)) refl (at_least kind (keep kind x y) ys) (found kind (keep kind x y) ys)
+found kind x (y ∷ ys) = at (is_worse kind (seen_value y) (seen_value x)) refl
+    (at_least kind (keep kind x y) ys) (found kind (keep kind x y) ys)
   where
     at : (b : Bool) → is_worse kind (seen_value y) (seen_value x) ≡ b
         → is_worse kind (seen_value (cond b y x)) (seen_value (first_worst kind (cond b y x) ys)) ≡ false
-        → find (has_value (first_worst kind (cond b y x) ys)) (cond b y x ∷ ys) ≡ Some (first_worst kind (cond b y x) ys)
-        → find (has_value (first_worst kind (cond b y x) ys)) (x ∷ y ∷ ys) ≡ Some (first_worst kind (cond b y x) ys)
+        → find (has_value (first_worst kind (cond b y x) ys)) (cond b y x ∷ ys)
+            ≡ Some (first_worst kind (cond b y x) ys)
+        → find (has_value (first_worst kind (cond b y x) ys)) (x ∷ y ∷ ys)
+            ≡ Some (first_worst kind (cond b y x) ys)
     at true is least later = found_later kind x y ys (first_worst kind y ys) is least later
-    at false is least later = found_before kind x y ys (first_worst kind x ys) (has_value (first_worst kind x ys) x) refl is least later
+    at false is least later = found_before kind x y ys (first_worst kind x ys)
+        (has_value (first_worst kind x ys) x) refl is least later
 
 -- ---- what is known of the event over what was seen of it
 
 -- after one more window: the first of equally bad values stays
 abbrev pub with_seen : Kind → Running → ℕ → ℕ → Running
-with_seen kind r channel value = cond (is_worse kind value r.value) (record { start = r.start; channel = channel; value = value }) r
+with_seen kind r channel value = cond (is_worse kind value r.value)
+    (record { start = r.start; channel = channel; value = value }) r
 
 abbrev pub value_of : Kind → List Condition → ℕ
 value_of kind seen = worst kind (map seen_value seen)
@@ -118,20 +139,25 @@ known kind start seen = record { start = start; channel = channel_of kind seen; 
 abbrev known_by : ℕ → Condition → Running
 known_by start w = record { start = start; channel = w.channel; value = seen_value w }
 
-known_is : (kind : Kind) (start : ℕ) (x : Condition) (xs : List Condition) → known kind start (x ∷ xs) ≡ known_by start (first_worst kind x xs)
+known_is : (kind : Kind) (start : ℕ) (x : Condition) (xs : List Condition) → known kind start (x ∷ xs)
+    ≡ known_by start (first_worst kind x xs)
 known_is kind start x xs =
     let w = first_worst kind x xs in
-    let of_value : ℕ → Running = λ v. record { start = start; channel = option_map_or (λ c. c.channel) (find (λ c. seen_value c == v) (x ∷ xs)) 0; value = v } in
-    let of_found : Option Condition → Running = λ o. record { start = start; channel = option_map_or (λ c. c.channel) o 0; value = seen_value w } in
+    let of_value : ℕ → Running = λ v. record { start = start; channel =
+        option_map_or (λ c. c.channel) (find (λ c. seen_value c == v) (x ∷ xs)) 0; value = v } in
+    let of_found : Option Condition → Running = λ o. record
+        { start = start; channel = option_map_or (λ c. c.channel) o 0; value = seen_value w } in
     ap of_value (worst_value kind x xs) ∙ ap of_found (found kind x xs)
 
-known_either : (b : Bool) (start : ℕ) (c w : Condition) → known_by start (cond b c w) ≡ cond b (record { start = start; channel = c.channel; value = seen_value c }) (known_by start w)
+known_either : (b : Bool) (start : ℕ) (c w : Condition) → known_by start (cond b c w)
+    ≡ cond b (record { start = start; channel = c.channel; value = seen_value c }) (known_by start w)
 known_either true start c w = refl
 known_either false start c w = refl
 
 -- one more condition, seen after others
 pub known_push : (kind : Kind) (start : ℕ) (x : Condition) (xs : List Condition) (c : Condition)
-    → known kind start ((x ∷ xs) ++ c ∷ []) ≡ with_seen kind (known kind start (x ∷ xs)) c.channel (seen_value c)
+    → known kind start ((x ∷ xs) ++ c ∷ []) ≡ with_seen kind (known kind start (x ∷ xs)) c.channel
+        (seen_value c)
 known_push kind start x xs c =
     let w = first_worst kind x xs in
     known_is kind start x (xs ++ c ∷ [])
@@ -140,5 +166,6 @@ known_push kind start x xs c =
     ∙ ap (λ r. with_seen kind r c.channel (seen_value c)) (sym (known_is kind start x xs))
 
 -- a first condition
-pub known_first : (kind : Kind) (start : ℕ) (c : Condition) → known kind start (c ∷ []) ≡ record { start = start; channel = c.channel; value = seen_value c }
+pub known_first : (kind : Kind) (start : ℕ) (c : Condition) → known kind start (c ∷ [])
+    ≡ record { start = start; channel = c.channel; value = seen_value c }
 known_first kind start c = known_is kind start c []

@@ -19,15 +19,18 @@ pub record Watch : Type 0 where
 
 -- an event that runs, open at n
 abbrev pub open_at : Kind → ℕ → Running → Event
-open_at kind n r = record { kind = kind; start = r.start; end = n; channel = r.channel; value = r.value; is_open = true }
+open_at kind n r = record { kind = kind; start = r.start; end = n; channel = r.channel; value = r.value;
+    is_open = true }
 
--- a detector has seen these conditions: the event that runs is the one that they leave open, whatever n they end at
+-- a detector has seen these conditions: the event that runs is the one that they leave open, whatever n they
+-- end at
 abbrev pub HasSeen : Watch → List Condition → Type 0
 HasSeen watch fed = (n : ℕ) → IsLeftOpen watch.kind n fed (option_map (open_at watch.kind n) watch.running)
 
 -- what a detector is fed at one place
 abbrev pub condition : Bool → Bool → ℕ → Window → Condition
-condition begins ends channel window = record { begins = begins; ends = ends; channel = channel; window = window }
+condition begins ends channel window = record { begins = begins; ends = ends; channel = channel; window =
+    window }
 
 -- whatever a detector has seen, one more condition ends this event, or none
 abbrev pub Ends : Watch → Condition → Option Event → Type 0

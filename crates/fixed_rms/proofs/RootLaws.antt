@@ -10,7 +10,8 @@ square_of_double_more : (r : ℕ) → (2 * r + 1 + 1) * (2 * r + 1 + 1) ≡ 4 * 
 square_of_double_more r = grind arith
 
 -- twice the root of a quarter, and one more where its square still fits
-next_digit : (q x r : ℕ) → 4 * q ≤ x → x < 4 * q + 4 → IsGreatestRoot q r → (b : Bool) → nat_le ((2 * r + 1) * (2 * r + 1)) x ≡ b
+next_digit : (q x r : ℕ) → 4 * q ≤ x → x < 4 * q + 4 → IsGreatestRoot q r → (b : Bool) →
+    nat_le ((2 * r + 1) * (2 * r + 1)) x ≡ b
     → IsGreatestRoot x (cond b (2 * r + 1) (2 * r))
 next_digit q x r low high root true fits = record {
   square = grind (arith, fits);
@@ -26,7 +27,8 @@ unfolding root_in
 root_in_is zero x small = record { square = omega arith; next = omega (arith, small) }
 root_in_is (suc n) x small =
     let quarter : x / 4 < 4 ^ n = grind (arith, small) in
-    next_digit (x / 4) x (root_in n (x / 4)) (omega arith) (omega arith) (root_in_is n (x / 4) quarter) (nat_le ((2 * root_in n (x / 4) + 1) * (2 * root_in n (x / 4) + 1)) x) refl
+    next_digit (x / 4) x (root_in n (x / 4)) (omega arith) (omega arith) (root_in_is n (x / 4) quarter)
+        (nat_le ((2 * root_in n (x / 4) + 1) * (2 * root_in n (x / 4) + 1)) x) refl
 
 -- the function gives the greatest root
 pub isqrt_is : (x : ℕ) → x < 2 ^ 128 → IsGreatestRoot x (isqrt x)

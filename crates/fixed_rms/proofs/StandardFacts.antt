@@ -5,12 +5,15 @@ use Rattle.pq_words.proofs.WorkedSignal.{sine_count, square_count, sampled}
 use Rattle.pq_words.specs.Steps.{numbers_from}
 
 -- the greatest root below a square, at it, and of the largest argument that a mean square has
-pub known_roots : map isqrt (0 ∷ 1 ∷ 3 ∷ 4 ∷ 99 ∷ 100 ∷ (10 ^ 26 - 1) ∷ (10 ^ 26) ∷ []) ≡ 0 ∷ 1 ∷ 1 ∷ 2 ∷ 9 ∷ 10 ∷ 9_999_999_999_999 ∷ 10_000_000_000_000 ∷ []
+pub known_roots : map isqrt (0 ∷ 1 ∷ 3 ∷ 4 ∷ 99 ∷ 100 ∷ (10 ^ 26 - 1) ∷ (10 ^ 26) ∷ [])
+    ≡ 0 ∷ 1 ∷ 1 ∷ 2 ∷ 9 ∷ 10 ∷ 9_999_999_999_999 ∷ 10_000_000_000_000 ∷ []
 unfolding isqrt root_in
 known_roots = refl
 
--- a cycle of a sine of 10,000 counts has the mean square 49,998,111; at 0.0325 V a count its root is 229.805362 V
-pub sine_root : (mean_square (sampled sine_count 1 24) ≡ 49_998_111) × (rms (sampled sine_count 32_500 24) ≡ 229_805_362)
+-- a cycle of a sine of 10,000 counts has the mean square 49,998,111; at 0.0325 V a count its root is
+-- 229.805362 V
+pub sine_root : (mean_square (sampled sine_count 1 24) ≡ 49_998_111) ×
+    (rms (sampled sine_count 32_500 24) ≡ 229_805_362)
 unfolding mean_square rms isqrt root_in sampled sine_count numbers_from
 sine_root = (refl, refl)
 

@@ -1,4 +1,5 @@
--- The subject: the root of the mean square, the r.m.s. value (IEC 61000-4-30:2015, 4.5 and 5.2). Whole microvolts and rounding down are profile.
+-- The subject: the root of the mean square, the r.m.s. value (IEC 61000-4-30:2015, 4.5 and 5.2). Whole
+-- microvolts and rounding down are profile.
 use Rattle.std.specs.Prelude.{ℕ, zero, suc, ◌+◌, ◌*◌, ◌/◌, ◌<◌, ◌≤◌, nat_le, List, length, sum_by, ℤ, unsigned_abs, if◌then◌else◌}
 
 -- r is the greatest number whose square is at most x (profile)
@@ -6,7 +7,8 @@ pub record IsGreatestRoot (x r : ℕ) : Type 0 where
   pub square : r * r ≤ x
   pub next : x < (r + 1) * (r + 1)
 
--- that number, of an x below 4 ^ n: twice the root of a quarter of x, and one more where the square of that still fits
+-- that number, of an x below 4 ^ n: twice the root of a quarter of x, and one more where the square of that
+-- still fits
 unfoldable pub root_in : ℕ → ℕ → ℕ
 root_in zero x = 0
 root_in (suc n) x =

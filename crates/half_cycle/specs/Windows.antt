@@ -10,7 +10,8 @@ use Rattle.pq_words.specs.Successors.{successors}
 
 -- the windows that begin at this boundary and at those after it
 unfoldable pub windows_from : List ℤ → Rule → Boundary → List Window
-windows_from s rule b = windows_over s (map (λ c. c.place) (successors (boundary_after s rule) (length s) (Some b)))
+windows_from s rule b = windows_over s (map (λ c. c.place)
+    (successors (boundary_after s rule) (length s) (Some b)))
 
 -- the windows from the one that is begun on, or none
 abbrev pub windows_left : List ℤ → Rule → Option Begun → List Window

@@ -7,7 +7,8 @@ use Rattle.pq_base.specs.declared.decimal.Scaled.{Scaled}
 -- the sign of a text, and the text after it: an optional `+` or `-`
 abbrev pub signed_text : Text → Bool × Text
 signed_text [] = (false, [])
-signed_text (c ∷ text) = if c == 45 then (true, text) else (if c == 43 then (false, text) else (false, c ∷ text))
+signed_text (c ∷ text) = if c == 45 then (true, text) else
+    (if c == 43 then (false, text) else (false, c ∷ text))
 
 -- minus n where the sign is negative, else n
 abbrev pub with_sign : Bool → ℕ → ℤ
@@ -25,7 +26,8 @@ exponent_of text = let s = signed_text text in option_map (with_sign s.0) (digit
 -- 1 to 32 digits in all, of which `fraction` stand after the point
 abbrev pub scaled_by : Bool → Text → Text → ℤ → Option Scaled
 scaled_by negative whole fraction exponent =
-    option_map (λ n. record { negative = negative; digits = n; exponent = exponent -ℤ pos (length fraction) }) (digits_between 1 32 (whole ++ fraction))
+    option_map (λ n. record { negative = negative; digits = n; exponent = exponent -ℤ pos (length fraction) })
+        (digits_between 1 32 (whole ++ fraction))
 
 -- the digits of a mantissa that is parted at its point, if it has one
 abbrev pub mantissa_of : Bool → List Text → ℤ → Option Scaled
@@ -36,7 +38,8 @@ mantissa_of negative _ exponent = None
 -- a text without its sign, parted at its exponent mark, if it has one
 abbrev pub unsigned_decimal : Bool → List Text → Option Scaled
 unsigned_decimal negative (mantissa ∷ []) = mantissa_of negative (parted_at 46 mantissa) (pos 0)
-unsigned_decimal negative (mantissa ∷ exponent ∷ []) = option_and_then (mantissa_of negative (parted_at 46 mantissa)) (exponent_of exponent)
+unsigned_decimal negative (mantissa ∷ exponent ∷ []) =
+    option_and_then (mantissa_of negative (parted_at 46 mantissa)) (exponent_of exponent)
 unsigned_decimal negative _ = None
 
 -- the value of a Decimal; None where the text is no Decimal

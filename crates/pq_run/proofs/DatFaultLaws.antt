@@ -29,29 +29,38 @@ of_missing : (at : ℕ) (p : Option ℕ) → GivesOfDat (none_missing at p)
 of_missing at None e found = absurd cc
 of_missing at (Some p) e found = let same : fault.Missing at (p + 1) ≡ e = cc in subst IsOfDat same tt
 
-of_both : (r : Result (Unit {0}) DatFault) (next : Unit {0} → Result (Unit {0}) DatFault) → GivesOfDat r → GivesOfDat (next tt) → GivesOfDat (r >>= next)
+of_both : (r : Result (Unit {0}) DatFault) (next : Unit {0} → Result (Unit {0}) DatFault) → GivesOfDat r →
+    GivesOfDat (next tt) → GivesOfDat (r >>= next)
 of_both (Ok good) next first second e found = second e found
 of_both (Err f) next first second e found = first e found
 
-of_record : (size : ℕ) (positions : List ℕ) (dat : Text) (at : ℕ) → GivesOfDat (judged_record size positions dat at)
+of_record : (size : ℕ) (positions : List ℕ) (dat : Text) (at : ℕ) →
+    GivesOfDat (judged_record size positions dat at)
 of_record size positions dat at =
     let whole = nat_le (size * (at + 1)) (length dat) in
     let missing = missing_in (record_at size dat at) positions in
-    of_both (provided whole (fault.Short (at + 1)) (tt {0})) (λ there. none_missing (at + 1) missing) (of_provided whole (fault.Short (at + 1)) tt) (of_missing (at + 1) missing)
+    of_both (provided whole (fault.Short (at + 1)) (tt {0})) (λ there. none_missing (at + 1) missing)
+        (of_provided whole (fault.Short (at + 1)) tt) (of_missing (at + 1) missing)
 
-of_records : (size : ℕ) (positions : List ℕ) (dat : Text) (n : ℕ) → GivesOfDat (judged_records size positions dat n)
+of_records : (size : ℕ) (positions : List ℕ) (dat : Text) (n : ℕ) →
+    GivesOfDat (judged_records size positions dat n)
 unfolding judged_records
 of_records size positions dat zero = λ e found. absurd cc
-of_records size positions dat (suc n) = of_both (judged_records size positions dat n) (λ earlier. judged_record size positions dat n) (of_records size positions dat n) (of_record size positions dat n)
+of_records size positions dat (suc n) = of_both (judged_records size positions dat n)
+    (λ earlier. judged_record size positions dat n) (of_records size positions dat n)
+    (of_record size positions dat n)
 
 of_dat : (size : ℕ) (positions : List ℕ) (dat : Text) (n : ℕ) → GivesOfDat (judged_dat size positions dat n)
 of_dat size positions dat n =
     let no_more = nat_le (length dat) (size * n) in
     let surplus = fault.Long (length dat - size * n) in
-    of_both (judged_records size positions dat n) (λ good. provided no_more surplus (tt {0})) (of_records size positions dat n) (of_provided no_more surplus tt)
+    of_both (judged_records size positions dat n) (λ good. provided no_more surplus (tt {0}))
+        (of_records size positions dat n) (of_provided no_more surplus tt)
 
 -- what a dat is refused by is a fault of its bytes
-pub fault_of_dat : (c : Configuration) (s : Selected) (dat : Text) (e : DatFault) → samples_of c s dat ≡ Err e → IsOfDat e
+pub fault_of_dat : (c : Configuration) (s : Selected) (dat : Text) (e : DatFault) → samples_of c s dat ≡ Err e
+    → IsOfDat e
 unfolding samples_of
 fault_of_dat c s dat e found =
-    of_dat (record_size c) s.positions dat c.endsamp e (unless_err (judged_dat (record_size c) s.positions dat c.endsamp) (recording_of c s dat) e found)
+    of_dat (record_size c) s.positions dat c.endsamp e
+        (unless_err (judged_dat (record_size c) s.positions dat c.endsamp) (recording_of c s dat) e found)

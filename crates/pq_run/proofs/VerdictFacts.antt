@@ -39,7 +39,9 @@ use Rattle.zero_cross.specs.Boundary.{boundaries, cycle_boundaries, first_bounda
 -- a cfg with these numbers of channels, channel lines, sampling rate and number of samples
 abbrev cfg_with : Text → List Text → Text → Text
 cfg_with counts channels sampling =
-    with_line_ends (codes "demo,pqa,1999" ∷ counts ∷ channels ++ codes "50" ∷ codes "1" ∷ sampling ∷ codes "01/03/2024,12:00:01.000000" ∷ codes "01/03/2024,12:00:01.000000" ∷ codes "BINARY" ∷ codes "1" ∷ [])
+    with_line_ends (codes "demo,pqa,1999" ∷ counts ∷ channels
+        ++ codes "50" ∷ codes "1" ∷ sampling ∷ codes "01/03/2024,12:00:01.000000" ∷ codes
+        "01/03/2024,12:00:01.000000" ∷ codes "BINARY" ∷ codes "1" ∷ [])
 
 -- an analogue channel line of this unit and coefficient
 abbrev channel : Text → Text → Text
@@ -60,41 +62,70 @@ files_with cfg dat = Some ((codes "a.cfg", cfg) ∷ (codes "a.dat", dat) ∷ [])
 
 -- the refusals of the dat, and of files that are not there
 pub dat_verdicts : map (verdict (still_course words))
-    (files_with (worked_cfg (codes "3")) (replicate 29 0) ∷ files_with (worked_cfg (codes "3")) (replicate 31 0) ∷ files_with (worked_cfg (codes "3")) (slice_set (replicate 31 0) 19 0x80)
+    (files_with (worked_cfg (codes "3")) (replicate 29 0) ∷ files_with (worked_cfg (codes "3"))
+        (replicate 31 0) ∷ files_with (worked_cfg (codes "3")) (slice_set (replicate 31 0) 19 0x80)
     ∷ Some [] ∷ Some ((codes "a.cfg", worked_cfg (codes "3")) ∷ []) ∷ None ∷ [])
-    ≡ Some (Refused (status.DatFault (fault.Short 3))) ∷ Some (Refused (status.DatFault (fault.Long 1))) ∷ Some (Refused (status.DatFault (fault.Missing 2 1)))
+    ≡ Some (Refused (status.DatFault (fault.Short 3))) ∷ Some (Refused (status.DatFault (fault.Long 1))) ∷
+        Some (Refused (status.DatFault (fault.Missing 2 1)))
     ∷ Some (Refused (status.NoFile 1)) ∷ Some (Refused (status.NoFile 2)) ∷ None ∷ []
-unfolding check_words intervals_words measured_of selected_of samples_of judged_records digits text_field number_field position_field decimal_text decimal_field channel_count frequency_field rate_field samples_field leap_field station_fields analogue_fields status_fields configuration_of configuration_ahead channel_lines decimal_of written_moment date_of clock_time_of days_from_civil day_count days_of_years days_of_months
+unfolding check_words intervals_words measured_of selected_of samples_of judged_records digits text_field
+    number_field position_field decimal_text decimal_field channel_count frequency_field rate_field
+    samples_field leap_field station_fields analogue_fields status_fields configuration_of configuration_ahead
+    channel_lines decimal_of written_moment date_of clock_time_of days_from_civil day_count days_of_years
+    days_of_months
 dat_verdicts = refl
 
--- the refusals of the cfg, with no dat: the coefficient and the rate at their limits, a current, two channels, a state, and a fault after its numbers of channels
+-- the refusals of the cfg, with no dat: the coefficient and the rate at their limits, a current, two
+-- channels, a state, and a fault after its numbers of channels
 pub cfg_verdicts : map (λ cfg. verdict (still_course words) (Some ((codes "a.cfg", cfg) ∷ [])))
-    (one_channel (codes "V") (codes "305.2") (codes "1200,3") ∷ one_channel (codes "V") (codes "305.1") (codes "1200,3") ∷ one_channel (codes "V") (codes "0.0325") (codes "800,3")
-    ∷ one_channel (codes "V") (codes "0.0325") (codes "799.999999,3") ∷ one_channel (codes "A") (codes "305.2") (codes "1200,3")
-    ∷ cfg_with (codes "2,1A,1D") (channel (codes "A") (codes "1") ∷ codes "1,,,,0" ∷ []) (codes "1200,3") ∷ cfg_with (codes "2,1A,1D") (channel (codes "V") (codes "1") ∷ codes "1,,,,0" ∷ []) (codes "1200,x") ∷ cfg_with (codes "0,0A,0D") [] (codes "1200,3") ∷ [])
-    ≡ Some (Refused (status.Limit quantity.Value 3)) ∷ Some (Refused (status.NoFile 2)) ∷ Some (Refused (status.NoFile 2))
+    (one_channel (codes "V") (codes "305.2") (codes "1200,3") ∷ one_channel (codes "V") (codes "305.1")
+        (codes "1200,3") ∷ one_channel (codes "V") (codes "0.0325") (codes "800,3")
+    ∷ one_channel (codes "V") (codes "0.0325") (codes "799.999999,3") ∷ one_channel (codes "A")
+        (codes "305.2") (codes "1200,3")
+    ∷ cfg_with (codes "2,1A,1D") (channel (codes "A") (codes "1") ∷ codes "1,,,,0" ∷ []) (codes "1200,3") ∷
+        cfg_with (codes "2,1A,1D") (channel (codes "V") (codes "1") ∷ codes "1,,,,0" ∷ []) (codes "1200,x") ∷
+        cfg_with (codes "0,0A,0D") [] (codes "1200,3") ∷ [])
+    ≡ Some (Refused (status.Limit quantity.Value 3)) ∷ Some (Refused (status.NoFile 2)) ∷ Some
+        (Refused (status.NoFile 2))
     ∷ Some (Refused (status.Limit quantity.Rate 6)) ∷ Some (Refused (status.Selection 0))
-    ∷ Some (Refused (status.Unsupported unsupported.NotYet 2)) ∷ Some (Refused (status.CfgFault 7 2)) ∷ Some (Refused (status.Unsupported unsupported.NotYet 2)) ∷ []
-unfolding check_words intervals_words measured_of selected_of samples_of judged_records digits text_field number_field position_field decimal_text decimal_field channel_count frequency_field rate_field samples_field leap_field station_fields analogue_fields status_fields configuration_of configuration_ahead channel_lines decimal_of written_moment date_of clock_time_of days_from_civil day_count days_of_years days_of_months
+    ∷ Some (Refused (status.Unsupported unsupported.NotYet 2)) ∷ Some (Refused (status.CfgFault 7 2)) ∷ Some
+        (Refused (status.Unsupported unsupported.NotYet 2)) ∷ []
+unfolding check_words intervals_words measured_of selected_of samples_of judged_records digits text_field
+    number_field position_field decimal_text decimal_field channel_count frequency_field rate_field
+    samples_field leap_field station_fields analogue_fields status_fields configuration_of configuration_ahead
+    channel_lines decimal_of written_moment date_of clock_time_of days_from_civil day_count days_of_years
+    days_of_months
 cfg_verdicts = refl
 
 -- a cfg of no sample and an empty dat are a job: the header alone
-pub empty_recording : verdict (still_course words) (files_with (worked_cfg (codes "0")) []) ≡ Some (Job (codes "kind,channel,start,end,from,to,tick,value,count,mark\n"))
-unfolding check_words intervals_words measured_of selected_of samples_of judged_records digits text_field number_field position_field decimal_text decimal_field channel_count frequency_field rate_field samples_field leap_field station_fields analogue_fields status_fields configuration_of configuration_ahead channel_lines decimal_of written_moment date_of clock_time_of days_from_civil day_count days_of_years days_of_months report_text header sequential in_order items_under all_events events extents event_from successors windows windows_over tick_places ticks place_of time_of fronts front_of basic_runs runs cycle_boundaries boundaries first_boundary rule_of first_between first_of numbers_from steps_from
+pub empty_recording : verdict (still_course words) (files_with (worked_cfg (codes "0")) [])
+    ≡ Some (Job (codes "kind,channel,start,end,from,to,tick,value,count,mark\n"))
+unfolding check_words intervals_words measured_of selected_of samples_of judged_records digits text_field
+    number_field position_field decimal_text decimal_field channel_count frequency_field rate_field
+    samples_field leap_field station_fields analogue_fields status_fields configuration_of configuration_ahead
+    channel_lines decimal_of written_moment date_of clock_time_of days_from_civil day_count days_of_years
+    days_of_months report_text header sequential in_order items_under all_events events extents event_from
+    successors windows windows_over tick_places ticks place_of time_of fronts front_of basic_runs runs
+    cycle_boundaries boundaries first_boundary rule_of first_between first_of numbers_from steps_from
 empty_recording = refl
 
 -- no file is needed for words that are not understood
 pub usage : map (λ w. verdict (still_course w) None)
-    ((codes "intervals" ∷ codes "a.cfg" ∷ codes "a.dat" ∷ []) ∷ (codes "intervals" ∷ codes "--udin" ∷ codes "0" ∷ codes "a.cfg" ∷ codes "a.dat" ∷ [])
-    ∷ (codes "intervals" ∷ codes "--udin" ∷ codes "1000000001" ∷ codes "a.cfg" ∷ codes "a.dat" ∷ []) ∷ (codes "intervals" ∷ codes "--udin" ∷ codes "+5" ∷ codes "a.cfg" ∷ codes "a.dat" ∷ [])
-    ∷ (codes "interval" ∷ codes "--udin" ∷ codes "1" ∷ codes "a.cfg" ∷ codes "a.dat" ∷ []) ∷ (codes "check" ∷ []) ∷ (codes "check" ∷ codes "a.cfg" ∷ codes "a.dat" ∷ []) ∷ [] ∷ [])
+    ((codes "intervals" ∷ codes "a.cfg" ∷ codes "a.dat" ∷ []) ∷
+        (codes "intervals" ∷ codes "--udin" ∷ codes "0" ∷ codes "a.cfg" ∷ codes "a.dat" ∷ [])
+    ∷ (codes "intervals" ∷ codes "--udin" ∷ codes "1000000001" ∷ codes "a.cfg" ∷ codes "a.dat" ∷ []) ∷
+        (codes "intervals" ∷ codes "--udin" ∷ codes "+5" ∷ codes "a.cfg" ∷ codes "a.dat" ∷ [])
+    ∷ (codes "interval" ∷ codes "--udin" ∷ codes "1" ∷ codes "a.cfg" ∷ codes "a.dat" ∷ []) ∷
+        (codes "check" ∷ []) ∷ (codes "check" ∷ codes "a.cfg" ∷ codes "a.dat" ∷ []) ∷ [] ∷ [])
     ≡ replicate 8 (Some (Refused status.Usage))
 unfolding check_words intervals_words
 usage = refl
 
 -- the refusals of `check`: no such file, no line, line 2 with two fields
 pub check_verdicts : map (λ f. verdict (still_course (codes "check" ∷ codes "a.cfg" ∷ [])) f)
-    (Some [] ∷ Some ((codes "a.cfg", []) ∷ []) ∷ Some ((codes "a.cfg", codes "demo,pqa,1999\n1,1A\n") ∷ []) ∷ None ∷ [])
-    ≡ Some (Refused (status.NoFile 1)) ∷ Some (Refused (status.CfgFault 1 0)) ∷ Some (Refused (status.CfgFault 2 0)) ∷ None ∷ []
+    (Some [] ∷ Some ((codes "a.cfg", []) ∷ []) ∷ Some ((codes "a.cfg", codes "demo,pqa,1999\n1,1A\n") ∷ []) ∷
+        None ∷ [])
+    ≡ Some (Refused (status.NoFile 1)) ∷ Some (Refused (status.CfgFault 1 0)) ∷ Some
+        (Refused (status.CfgFault 2 0)) ∷ None ∷ []
 unfolding check_words configuration_of configuration_ahead station_fields text_field number_field
 check_verdicts = refl

@@ -1,4 +1,5 @@
--- One binary data record: sample number, time stamp, analogue counts, status words, lowest byte first (C37.111, binary data record). Number and stamp are not judged.
+-- One binary data record: sample number, time stamp, analogue counts, status words, lowest byte first
+-- (C37.111, binary data record). Number and stamp are not judged.
 use Rattle.std.specs.Prelude.{ℕ, ◌+◌, ◌*◌, ◌/◌, slice_range, ℤ}
 use Rattle.std.specs.Int.{w16, from_le_bytes, cast_signed}
 use Rattle.pq_words.specs.Text.{Text}
@@ -13,4 +14,5 @@ record_at size dat position = slice_range dat (size * position) (size * (positio
 
 -- the count of the analogue channel at a position from 0, in two's complement
 abbrev pub count_at : Text → ℕ → ℤ
-count_at bytes position = cast_signed w16 (from_le_bytes w16 (slice_range bytes (8 + 2 * position) (10 + 2 * position)))
+count_at bytes position = cast_signed w16 (from_le_bytes w16
+    (slice_range bytes (8 + 2 * position) (10 + 2 * position)))

@@ -76,7 +76,8 @@ dat_course udin_mv m dat = recorded_course udin_mv (samples_of m.configuration m
 -- a cfg that is not refused: the dat is asked for
 abbrev pub measured_course : ℕ → Text → Result Measurement Status → Course Status
 measured_course udin_mv dat_name (Ok m) =
-    Asks dat_name (with_file (status.NoFile 2) (status.Limit quantity.DatBytes 0) 536870912 (dat_course udin_mv m))
+    Asks dat_name (with_file (status.NoFile 2) (status.Limit quantity.DatBytes 0) 536870912
+        (dat_course udin_mv m))
 measured_course udin_mv dat_name (Err why) = Ends (Refused why)
 
 abbrev pub cfg_course : ℕ → Text → Text → Course Status
@@ -85,7 +86,8 @@ cfg_course udin_mv dat_name cfg = measured_course udin_mv dat_name (measured_of 
 -- the cfg is asked for, and then the dat
 abbrev pub files_course : ℕ → Text → Text → Course Status
 files_course udin_mv cfg_name dat_name =
-    Asks cfg_name (with_file (status.NoFile 1) (status.Limit quantity.CfgBytes 0) 1048576 (cfg_course udin_mv dat_name))
+    Asks cfg_name (with_file (status.NoFile 1) (status.Limit quantity.CfgBytes 0) 1048576
+        (cfg_course udin_mv dat_name))
 
 -- words that are understood name the two files
 abbrev pub intervals_course : Option Words → Course Status

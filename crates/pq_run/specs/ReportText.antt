@@ -62,7 +62,8 @@ mark_of (item.Interruption channel start end value is_open) = open_word is_open
 
 -- the first fields of a row: kind, channel and span
 abbrev pub span_fields : Text → ℕ → ℕ → ℕ → Text
-span_fields kind channel start end = kind ++ codes "," ++ decimal channel ++ codes "," ++ decimal start ++ codes "," ++ decimal end ++ codes ","
+span_fields kind channel start end = kind ++ codes "," ++ decimal channel ++ codes "," ++ decimal start
+    ++ codes "," ++ decimal end ++ codes ","
 
 -- the last ones: value, count and mark
 abbrev pub value_fields : ℕ → ℕ → Text → Text
@@ -89,13 +90,15 @@ tick_text tick = option_map_or (λ second. printed_moment (moment_of second)) ti
 
 -- the next ones: the moments from, to and tick
 abbrev pub moment_fields : Clock → ℕ → ℕ → Option ℤ → Text
-moment_fields clock start end tick = place_text clock start ++ codes "," ++ place_text clock end ++ codes "," ++ tick_text tick ++ codes ","
+moment_fields clock start end tick = place_text clock start ++ codes "," ++ place_text clock end ++ codes ","
+    ++ tick_text tick ++ codes ","
 
 -- the row of an item
 unfoldable pub item_row : Clock → Item → Text
 item_row clock i =
     span_fields (kind_of i) (key_of i).channel (key_of i).start (item_end i)
-    ++ moment_fields clock (key_of i).start (item_end i) (tick_of i) ++ value_fields (details_of i).value (count_of i) (mark_of i)
+    ++ moment_fields clock (key_of i).start (item_end i) (tick_of i)
+        ++ value_fields (details_of i).value (count_of i) (mark_of i)
 
 -- the header, and a row for each item
 abbrev pub rows_text : Clock → List Item → Text

@@ -1,4 +1,5 @@
--- The subject: the samples that a dat gives for a configuration and a selection, or its first fault (C37.111, binary data record; the rounding: profile).
+-- The subject: the samples that a dat gives for a configuration and a selection, or its first fault (C37.111,
+-- binary data record; the rounding: profile).
 use Rattle.std.specs.Prelude.{ℕ, zero, suc, ◌+◌, ◌-◌, ◌*◌, ◌^◌, ◌≤◌, nat_le, List, length, map, find, ℤ, pos, neg_ℤ, unsigned_abs, Option, Some, None, slice_get, Result, Ok, Err}
 use Rattle.std.specs.Option.{option_map_or}
 use Rattle.std.specs.Ordering.{int_eq}
@@ -66,7 +67,8 @@ record_size c = size_with (length c.analogue) (length c.status)
 
 -- the coefficients of the channel at a position
 abbrev pub coefficients_at : Configuration → ℕ → Coefficients
-coefficients_at c position = option_map_or coefficients_of (slice_get c.analogue position) (record { a = pos 0; b = pos 0 })
+coefficients_at c position = option_map_or coefficients_of (slice_get c.analogue position)
+    (record { a = pos 0; b = pos 0 })
 
 -- the recording that a configuration, a selection and a good dat make
 abbrev pub recording_of : Configuration → Selected → Text → Recorded
@@ -81,4 +83,5 @@ recording_of c s dat = record {
 
 -- the recording, or the first fault of the dat
 unfoldable pub samples_of : Configuration → Selected → Text → Result Recorded DatFault
-samples_of c s dat = unless_fault (judged_dat (record_size c) s.positions dat c.endsamp) (recording_of c s dat)
+samples_of c s dat = unless_fault (judged_dat (record_size c) s.positions dat c.endsamp)
+    (recording_of c s dat)

@@ -49,7 +49,8 @@ quantity_text quantity.Channels = codes "selected channels"
 -- field 0 stands for the whole line
 abbrev pub field_text : ℕ → Text
 field_text field =
-    if field == 0 then codes ": missing, surplus or wrong number of fields" else codes " field " ++ (decimal field ++ codes ": not readable")
+    if field == 0 then codes ": missing, surplus or wrong number of fields" else codes " field "
+        ++ (decimal field ++ codes ": not readable")
 
 -- line 0 stands for no line
 abbrev pub limit_place : ℕ → Text
@@ -58,20 +59,24 @@ limit_place line = if line == 0 then [] else codes "cfg line " ++ (decimal line 
 -- the fault of a dat
 abbrev pub dat_fault_text : DatFault → Text
 dat_fault_text (dat_fault.Short at) = codes "dat record " ++ (decimal at ++ codes ": cut off")
-dat_fault_text (dat_fault.Missing at channel) = codes "dat record " ++ (decimal at ++ (codes ": channel " ++ (decimal channel ++ codes " missing")))
-dat_fault_text (dat_fault.Long bytes) = codes "dat: " ++ (decimal bytes ++ codes " bytes after the last record")
+dat_fault_text (dat_fault.Missing at channel) = codes "dat record "
+    ++ (decimal at ++ (codes ": channel " ++ (decimal channel ++ codes " missing")))
+dat_fault_text (dat_fault.Long bytes) = codes "dat: "
+    ++ (decimal bytes ++ codes " bytes after the last record")
 dat_fault_text dat_fault.OutOfMemory = codes "out of memory"
 
 -- channel 0 stands for none of them
 abbrev pub selection_text : ℕ → Text
-selection_text channel = if channel == 0 then codes "no voltage channel" else codes "channel " ++ decimal channel
+selection_text channel = if channel == 0 then codes "no voltage channel" else codes "channel "
+    ++ decimal channel
 
 -- the sentence of a status, without a line end
 unfoldable pub sentence_of : Status → Text
 sentence_of status.Done = []
 sentence_of status.Usage = codes "usage: words not understood"
 sentence_of (status.CfgFault line field) = codes "cfg line " ++ (decimal line ++ field_text field)
-sentence_of (status.Unsupported what line) = codes "cfg line " ++ (decimal line ++ (codes ": unsupported " ++ unsupported_text what))
+sentence_of (status.Unsupported what line) = codes "cfg line "
+    ++ (decimal line ++ (codes ": unsupported " ++ unsupported_text what))
 sentence_of (status.Limit what line) = limit_place line ++ (codes "limit passed: " ++ quantity_text what)
 sentence_of (status.Selection channel) = codes "selection: " ++ selection_text channel
 sentence_of (status.DatFault kind) = dat_fault_text kind

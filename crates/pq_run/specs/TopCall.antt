@@ -8,7 +8,8 @@ use Rattle.pq_run.specs.declared.status.Status.{Status}
 use Rattle.pq_run.specs.declared.status.Status.TheVariants as status
 use Rattle.pq_run.specs.Verdict.{Outcome, Refused, Job, Course, verdict, AsksFirst, ReachesTold}
 
--- what a clause sees of one call: told files, the name last asked, told bytes that the sink took, counts of faults
+-- what a clause sees of one call: told files, the name last asked, told bytes that the sink took, counts of
+-- faults
 pub record Call : Type 0 where
   pub files : Option Files
   pub asked : Option Text
@@ -48,7 +49,8 @@ IsDone course call = OfVerdict course call (HasTaken call) (λ why. ⊥)
 abbrev pub IsRefusal : Course Status → Call → Status → Type 0
 IsRefusal course call why = OfVerdict course call (λ text. ⊥) (λ found. found ≡ why) × HasTakenNothing call
 
--- read fault: the shelf's count rose to this number, on a file of the words that no refusal precedes, and nothing was taken
+-- read fault: the shelf's count rose to this number, on a file of the words that no refusal precedes, and
+-- nothing was taken
 pub record IsReadFault (course : Course Status) (call : Call) (faults : ℕ) : Type 0 where
   pub rose : Rose call.reads_before call.reads_after
   pub number : faults ≡ call.reads_after
@@ -89,10 +91,14 @@ pub record IsTopCall (course : Course Status) (call : Call) (s : Status) : Type 
 abbrev pub IsTopCallOnAnyShelf : Course Status → Option Text → Option Text → ℕ → ℕ → Status → Type 0
 IsTopCallOnAnyShelf course taken_before taken_after writes_before writes_after s =
     (files : Option Files) (asked : Option Text) (reads_before reads_after : ℕ)
-    → IsTopCall course (record { files = files; asked = asked; reads_before = reads_before; reads_after = reads_after; taken_before = taken_before; taken_after = taken_after; writes_before = writes_before; writes_after = writes_after }) s
+    → IsTopCall course (record { files = files; asked = asked; reads_before = reads_before; reads_after =
+        reads_after; taken_before = taken_before; taken_after = taken_after; writes_before = writes_before;
+        writes_after = writes_after }) s
 
 -- the same of a part that uses no sink, whatever a sink tells
 abbrev pub IsTopCallOnAnySink : Course Status → Option Files → Option Text → ℕ → ℕ → Status → Type 0
 IsTopCallOnAnySink course files asked reads_before reads_after s =
     (taken : Option Text) (writes : ℕ)
-    → IsTopCall course (record { files = files; asked = asked; reads_before = reads_before; reads_after = reads_after; taken_before = taken; taken_after = taken; writes_before = writes; writes_after = writes }) s
+    → IsTopCall course (record { files = files; asked = asked; reads_before = reads_before; reads_after =
+        reads_after; taken_before = taken; taken_after = taken; writes_before = writes; writes_after =
+        writes }) s

@@ -8,7 +8,8 @@ pub data Outcome (S : Type 0) : Type 0 where
   Refused : S → Outcome S
   Job : Text → Outcome S
 
--- a course ends, or asks for a file by its name and goes on with the file's bytes, or with none where it isn't there
+-- a course ends, or asks for a file by its name and goes on with the file's bytes, or with none where it
+-- isn't there
 pub data Course (S : Type 0) : Type 0 where
   Ends : Outcome S → Course S
   Asks : Text → (Option Text → Course S) → Course S
@@ -24,7 +25,8 @@ abbrev pub AsksFirst : {S : Type 0} → Course S → Type 0
 AsksFirst (Ends outcome) = ⊥
 AsksFirst (Asks name go) = Unit {0}
 
--- over these files the course asks for this name: it is one of the words, and no refusal stands before its reading
+-- over these files the course asks for this name: it is one of the words, and no refusal stands before its
+-- reading
 abbrev pub Reaches : {S : Type 0} → Course S → Files → Text → Type 0
 Reaches (Ends outcome) files name = ⊥
 Reaches (Asks asked go) files name = (asked ≡ name) ⊎ Reaches (go (file_named files asked)) files name
@@ -39,7 +41,9 @@ abbrev pub ReachesTold : {S : Type 0} → Course S → Option Files → Text →
 ReachesTold course None name = MayReach course name
 ReachesTold course (Some files) name = Reaches course files name
 
--- a file that is missing is refused, one of more bytes than its limit too, and else the course goes on with its bytes
+-- a file that is missing is refused, one of more bytes than its limit too, and else the course goes on with
+-- its bytes
 abbrev pub with_file : {S : Type 0} → S → S → ℕ → (Text → Course S) → Option Text → Course S
 with_file missing over limit go None = Ends (Refused missing)
-with_file missing over limit go (Some bytes) = if nat_le (length bytes) limit then go bytes else Ends (Refused over)
+with_file missing over limit go (Some bytes) = if nat_le (length bytes) limit then go bytes else Ends
+    (Refused over)

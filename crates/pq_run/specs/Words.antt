@@ -16,7 +16,8 @@ pub record IsVoltage (udin_mv : ℕ) : Type 0 where
 
 -- the declared voltage that a text writes: a Number in that range
 abbrev pub voltage_of : Text → Option ℕ
-voltage_of text = option_and_then (λ n. if nat_le 1 n && nat_le n 1000000000 then Some n else None) (number text)
+voltage_of text = option_and_then (λ n. if nat_le 1 n && nat_le n 1000000000 then Some n else None)
+    (number text)
 
 -- `check CFG`; None for any other words
 unfoldable pub check_words : List Text → Option Text

@@ -19,17 +19,22 @@ unfolding numbers_from
 numbers_lie low zero = All-nil (λ x. x < low + 0)
 numbers_lie low (suc n) =
     All-cons (λ x. x < low + suc n) low (numbers_from (low + 1) n) (omega arith)
-    (All-weaker (λ x. x < low + 1 + n) (λ x. x < low + suc n) (λ x h. omega (arith, h)) (numbers_from (low + 1) n) (numbers_lie (low + 1) n))
+    (All-weaker (λ x. x < low + 1 + n) (λ x. x < low + suc n) (λ x h. omega (arith, h))
+        (numbers_from (low + 1) n) (numbers_lie (low + 1) n))
 
 -- the cycles of a run lie between boundaries
-pub runs_lie : (starts : List ℕ) (cycles boundaries : ℕ) → 0 < cycles → All (IsRun boundaries) (runs starts cycles (boundaries - 1))
+pub runs_lie : (starts : List ℕ) (cycles boundaries : ℕ) → 0 < cycles →
+    All (IsRun boundaries) (runs starts cycles (boundaries - 1))
 unfolding runs
 runs_lie starts cycles boundaries some =
     let n = boundaries - 1 + 1 - cycles in
     All-map (IsRun boundaries) (run_from cycles) _
     (All-filter (begins_run starts cycles) (λ x. IsRun boundaries (run_from cycles x)) (numbers_below n)
-    (All-weaker (λ x. x < 0 + n) (λ x. IsRun boundaries (run_from cycles x)) (λ x h. record { some = omega (arith, some); there = omega (arith, some, h) }) (numbers_below n) (numbers_lie 0 n)))
+    (All-weaker (λ x. x < 0 + n) (λ x. IsRun boundaries (run_from cycles x))
+        (λ x h. record { some = omega (arith, some); there = omega (arith, some, h) }) (numbers_below n)
+        (numbers_lie 0 n)))
 
 -- an interval ends after its start
-pub starts_before : (boundaries : List ℕ) (count : ℕ) (run : Span) → IsRun (length boundaries) run → AreBoundaries boundaries count → (basic_span boundaries run).start < (basic_span boundaries run).end
+pub starts_before : (boundaries : List ℕ) (count : ℕ) (run : Span) → IsRun (length boundaries) run →
+    AreBoundaries boundaries count → (basic_span boundaries run).start < (basic_span boundaries run).end
 starts_before boundaries count run is are = are.rising run.start run.end 0 is.some is.there

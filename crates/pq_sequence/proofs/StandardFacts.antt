@@ -32,7 +32,8 @@ usual = limits_of (record { udin_mv = 230_000; dip = 900; swell = 1100; interrup
 -- channel 1 at 1200 Hz and 50 Hz, from so many milliseconds after noon of 1 March 2024
 abbrev from_noon : ℤ → List ℤ → Recorded
 from_noon milliseconds samples =
-    record { t0 = (pos (1_709_294_400 * 10 ^ 3) +ℤ milliseconds) *ℤ pos (10 ^ 6); rate = 1_200_000_000; lf = 50; numbers = 1 ∷ []; reference = 0; samples = samples ∷ [] }
+    record { t0 = (pos (1_709_294_400 * 10 ^ 3) +ℤ milliseconds) *ℤ pos (10 ^ 6); rate = 1_200_000_000; lf =
+        50; numbers = 1 ∷ []; reference = 0; samples = samples ∷ [] }
 
 -- from a second after noon
 abbrev recorded : List ℤ → Recorded
@@ -40,7 +41,10 @@ recorded samples = from_noon (pos 1000) samples
 
 -- what a result computes by
 unfoldable computed : Recorded → Limits → List Item
-unfolding sequential items_under all_events limits_of class_of is_touched event_from extents event_over events tick_places ticks place_of time_of fronts front_of basic_runs runs windows window_between windows_over root_in isqrt mean_square rms rule_of first_boundary next_boundary boundaries cycle_boundaries first_of first_between successors put_in_order in_order numbers_from steps_from sine_count sampled square_count
+unfolding sequential items_under all_events limits_of class_of is_touched event_from extents event_over events
+    tick_places ticks place_of time_of fronts front_of basic_runs runs windows window_between windows_over
+    root_in isqrt mean_square rms rule_of first_boundary next_boundary boundaries cycle_boundaries first_of
+    first_between successors put_in_order in_order numbers_from steps_from sine_count sampled square_count
 computed r limits = sequential r limits
 
 -- a sine in 552 samples has two basic intervals, and no event
@@ -49,14 +53,17 @@ pub two_intervals : sequential (recorded (sampled sine_count 32_500 552)) usual
 unfolding computed
 two_intervals = refl
 
--- noon is at place 594, and its front at 600: the interval over it is completed, and overlaps the first one after it
+-- noon is at place 594, and its front at 600: the interval over it is completed, and overlaps the first one
+-- after it
 pub interval_over_tick : sequential (from_noon (neg_ℤ (pos 495)) (sampled sine_count 32_500 1200)) usual
-    ≡ item.Basic 1 24 264 10 229_805_362 false ∷ item.Basic 1 264 504 10 229_805_362 false ∷ item.Basic 1 504 744 10 229_805_362 false
+    ≡ item.Basic 1 24 264 10 229_805_362 false ∷ item.Basic 1 264 504 10 229_805_362 false ∷ item.Basic 1 504
+        744 10 229_805_362 false
     ∷ item.Basic 1 600 840 10 229_805_362 false ∷ item.Basic 1 840 1080 10 229_805_362 false ∷ []
 unfolding computed
 interval_over_tick = refl
 
--- noon before the first boundary, before the last boundary, which no cycle follows, or at the end of the recording, interrupts no interval
+-- noon before the first boundary, before the last boundary, which no cycle follows, or at the end of the
+-- recording, interrupts no interval
 pub ticks_at_the_edges : (sequential (from_noon (neg_ℤ (pos 10)) (sampled sine_count 32_500 552)) usual
     ≡ item.Basic 1 24 264 10 229_805_362 false ∷ item.Basic 1 264 504 10 229_805_362 false ∷ [])
     × (sequential (from_noon (neg_ℤ (pos 430)) (sampled sine_count 32_500 552)) usual
@@ -68,25 +75,31 @@ ticks_at_the_edges = (refl, refl, refl)
 
 -- noon at the start of a recording with no sample, in a recording, at its end, and not at all
 pub known_places : (tick_places (record { t0 = pos (1_709_294_400 * 10 ^ 9); rate = 800_000_000 }) 0 ≡ 0 ∷ [])
-    × (tick_places (clock_of (from_noon (neg_ℤ (pos 495)) [])) 1200 ≡ 594 ∷ []) × (tick_places (clock_of (from_noon (neg_ℤ (pos 460)) [])) 552 ≡ 552 ∷ [])
+    × (tick_places (clock_of (from_noon (neg_ℤ (pos 495)) [])) 1200 ≡ 594 ∷ []) ×
+        (tick_places (clock_of (from_noon (neg_ℤ (pos 460)) [])) 552 ≡ 552 ∷ [])
     × (tick_places (clock_of (from_noon (pos 1000) [])) 552 ≡ [])
 unfolding computed
 known_places = (refl, refl, refl, refl)
 
 -- places before the first boundary, at one, between two, twice between two, before the last, and after it
-pub known_fronts : map (fronts (10 ∷ 20 ∷ 30 ∷ [])) ((5 ∷ []) ∷ (20 ∷ []) ∷ (15 ∷ []) ∷ (15 ∷ 18 ∷ []) ∷ (12 ∷ 25 ∷ []) ∷ (31 ∷ []) ∷ [])
+pub known_fronts : map (fronts (10 ∷ 20 ∷ 30 ∷ []))
+    ((5 ∷ []) ∷ (20 ∷ []) ∷ (15 ∷ []) ∷ (15 ∷ 18 ∷ []) ∷ (12 ∷ 25 ∷ []) ∷ (31 ∷ []) ∷ [])
     ≡ (0 ∷ []) ∷ (0 ∷ 1 ∷ []) ∷ (0 ∷ 1 ∷ []) ∷ (0 ∷ 1 ∷ []) ∷ (0 ∷ 1 ∷ 2 ∷ []) ∷ (0 ∷ []) ∷ []
 unfolding fronts front_of first_between first_of
 known_fronts = refl
 
--- a run of two over a front is completed; a front with no cycle after it begins none; with no boundary there is none
-pub known_runs : (basic_runs 2 (0 ∷ 10 ∷ 20 ∷ 30 ∷ 40 ∷ 50 ∷ []) (25 ∷ []) ≡ record { start = 0; end = 2 } ∷ record { start = 2; end = 4 } ∷ record { start = 3; end = 5 } ∷ [])
-    × (basic_runs 2 (0 ∷ 10 ∷ 20 ∷ 30 ∷ []) (25 ∷ []) ≡ record { start = 0; end = 2 } ∷ []) × (basic_runs 2 [] (25 ∷ []) ≡ [])
+-- a run of two over a front is completed; a front with no cycle after it begins none; with no boundary there
+-- is none
+pub known_runs : (basic_runs 2 (0 ∷ 10 ∷ 20 ∷ 30 ∷ 40 ∷ 50 ∷ []) (25 ∷ [])
+    ≡ record { start = 0; end = 2 } ∷ record { start = 2; end = 4 } ∷ record { start = 3; end = 5 } ∷ [])
+    × (basic_runs 2 (0 ∷ 10 ∷ 20 ∷ 30 ∷ []) (25 ∷ []) ≡ record { start = 0; end = 2 } ∷ []) ×
+        (basic_runs 2 [] (25 ∷ []) ≡ [])
 unfolding basic_runs runs fronts front_of first_between first_of numbers_from
 known_runs = (refl, refl, refl)
 
 -- the crossing at place 504 counts only where it has a sample
-pub crossing_without_sample : (sequential (recorded (sampled sine_count 32_500 504)) usual ≡ item.Basic 1 24 264 10 229_805_362 false ∷ [])
+pub crossing_without_sample : (sequential (recorded (sampled sine_count 32_500 504)) usual
+    ≡ item.Basic 1 24 264 10 229_805_362 false ∷ [])
     × (sequential (recorded (sampled sine_count 32_500 505)) usual
     ≡ item.Basic 1 24 264 10 229_805_362 false ∷ item.Basic 1 264 504 10 229_805_362 false ∷ [])
 unfolding computed
@@ -98,41 +111,51 @@ unfolding computed
 empty_recording = refl
 
 abbrev halved_items : List Item
-halved_items = item.Basic 1 24 264 10 229_805_362 true ∷ item.Dip 1 252 336 114_896_273 false ∷ item.Basic 1 264 504 10 211_869_380 true ∷ []
+halved_items = item.Basic 1 24 264 10 229_805_362 true ∷ item.Dip 1 252 336 114_896_273 false ∷ item.Basic 1
+    264 504 10 211_869_380 true ∷ []
 
 -- a dip over two basic intervals flags both, also the one that was measured before it ended
-pub halved_half_cycles : sequential (recorded (sampled (replaced 264 312 (λ i. halved (sine_count i)) sine_count) 32_500 552)) usual ≡ halved_items
+pub halved_half_cycles : sequential (recorded (sampled
+    (replaced 264 312 (λ i. halved (sine_count i)) sine_count) 32_500 552)) usual ≡ halved_items
 unfolding computed
 halved_half_cycles = refl
 
 -- the square of 11,500 counts at 0.02 V, with one cycle of other counts and others again after it
 abbrev stepped : ℕ → ℕ → List ℤ
-stepped low after = sampled (replaced 264 288 (square_count 24 0 low) (replaced 288 552 (square_count 24 0 after) (square_count 24 0 11_500))) 20_000 552
+stepped low after = sampled (replaced 264 288 (square_count 24 0 low)
+    (replaced 288 552 (square_count 24 0 after) (square_count 24 0 11_500))) 20_000 552
 
 -- no dip at the threshold itself; one below it, until a value is the threshold and the hysteresis
 pub threshold_edges : (sequential (recorded (stepped 10_350 11_500)) usual
     ≡ item.Basic 1 24 264 10 230_000_000 false ∷ item.Basic 1 264 504 10 227_804_521 false ∷ [])
     × (sequential (recorded (stepped 10_349 10_580)) usual
-    ≡ item.Basic 1 24 264 10 230_000_000 false ∷ item.Dip 1 264 312 206_980_000 false ∷ item.Basic 1 264 504 10 211_142_549 true ∷ [])
+    ≡ item.Basic 1 24 264 10 230_000_000 false ∷ item.Dip 1 264 312 206_980_000 false ∷ item.Basic 1 264 504
+        10 211_142_549 true ∷ [])
 unfolding computed
 threshold_edges = (refl, refl)
 
--- the same on the other side: no swell at the threshold; one above it, until a value is the threshold less the hysteresis
+-- the same on the other side: no swell at the threshold; one above it, until a value is the threshold less
+-- the hysteresis
 pub swell_edges : (sequential (recorded (stepped 12_650 11_500)) usual
     ≡ item.Basic 1 24 264 10 230_000_000 false ∷ item.Basic 1 264 504 10 232_402_452 false ∷ [])
     × (sequential (recorded (stepped 12_651 12_420)) usual
-    ≡ item.Basic 1 24 264 10 230_000_000 false ∷ item.Swell 1 264 312 253_020_000 false ∷ item.Basic 1 264 504 10 248_865_859 true ∷ [])
+    ≡ item.Basic 1 24 264 10 230_000_000 false ∷ item.Swell 1 264 312 253_020_000 false ∷ item.Basic 1 264 504
+        10 248_865_859 true ∷ [])
 unfolding computed
 swell_edges = (refl, refl)
 
--- the cut at place 335 ends before the dip that ends at 336; the ends are the items' own, and then the end of the recording
-pub halved_cut : (map item_end (cut 335 halved_items) ≡ 264 ∷ []) × (map item_end (cut 336 halved_items) ≡ 264 ∷ 336 ∷ []) × (map (end_at halved_items 552) (0 ∷ 1 ∷ 2 ∷ 3 ∷ []) ≡ 264 ∷ 336 ∷ 504 ∷ 552 ∷ [])
+-- the cut at place 335 ends before the dip that ends at 336; the ends are the items' own, and then the end of
+-- the recording
+pub halved_cut : (map item_end (cut 335 halved_items) ≡ 264 ∷ []) ×
+    (map item_end (cut 336 halved_items) ≡ 264 ∷ 336 ∷ []) ×
+    (map (end_at halved_items 552) (0 ∷ 1 ∷ 2 ∷ 3 ∷ []) ≡ 264 ∷ 336 ∷ 504 ∷ 552 ∷ [])
 unfolding cut
 halved_cut = (refl, refl, refl)
 
 -- no crossings: intervals of silence, all flagged by a dip and an interruption that are open at the end
 pub all_zero : sequential (recorded (replicate 1200 (pos 0))) usual
-    ≡ item.Basic 1 0 240 10 0 true ∷ item.Basic 1 240 480 10 0 true ∷ item.Basic 1 480 720 10 0 true ∷ item.Basic 1 720 960 10 0 true
+    ≡ item.Basic 1 0 240 10 0 true ∷ item.Basic 1 240 480 10 0 true ∷ item.Basic 1 480 720 10 0 true ∷
+        item.Basic 1 720 960 10 0 true
     ∷ item.Dip 1 0 1200 0 true ∷ item.Interruption 1 0 1200 0 true ∷ []
 unfolding computed
 all_zero = refl
@@ -142,5 +165,7 @@ abbrev long_and_short : List Reach
 long_and_short = record { start = 100; furthest = 2000 } ∷ record { start = 400; furthest = 2000 } ∷ []
 
 -- spans past the short one are still reached by the long one; spans that only meet it are not
-pub long_over_short : (is_reached long_and_short 420 480 ≡ true) × (is_reached long_and_short 1999 2239 ≡ true) × (is_reached long_and_short 2000 2240 ≡ false) × (is_reached long_and_short 0 100 ≡ false)
+pub long_over_short : (is_reached long_and_short 420 480 ≡ true) ×
+    (is_reached long_and_short 1999 2239 ≡ true) × (is_reached long_and_short 2000 2240 ≡ false) ×
+    (is_reached long_and_short 0 100 ≡ false)
 long_over_short = (refl, refl, refl, refl)

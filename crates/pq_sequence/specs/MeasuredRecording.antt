@@ -41,7 +41,8 @@ tick_places clock n = map (tick_place clock n) (ticks clock n 600)
 
 -- the spans of the basic intervals, the same for all channels (4.5)
 abbrev pub recorded_spans : Recorded → List Span
-recorded_spans r = basic_spans (cycles_of r.lf) (reference_cycles r) (tick_places (clock_of r) (sample_count r))
+recorded_spans r = basic_spans (cycles_of r.lf) (reference_cycles r)
+    (tick_places (clock_of r) (sample_count r))
 
 -- the half-cycle windows of the channel (5.4)
 abbrev pub recorded_windows : Recorded → List Window

@@ -21,7 +21,8 @@ use Rattle.ten_twelve.specs.declared.span.Span.{Span}
 abbrev pub number_of : Recorded → ℕ → ℕ
 number_of r position = slice_index r.numbers position
 
--- the basic interval of the channel at a position: the root of its samples over the span (5.2), flagged where some event of the whole recording, of any kind, touches the span (4.7)
+-- the basic interval of the channel at a position: the root of its samples over the span (5.2), flagged where
+-- some event of the whole recording, of any kind, touches the span (4.7)
 abbrev pub basic_item : Recorded → List Event → ℕ → Span → Item
 basic_item r events position span =
     item.Basic (number_of r position) span.start span.end (cycles_of r.lf)

@@ -9,9 +9,11 @@ use Rattle.pq_sequence.specs.declared.touches.Reach.{Reach}
 
 -- some reach begins before the end of the span and lasts past its start
 abbrev pub is_reached : List Reach → ℕ → ℕ → Bool
-is_reached reaches start end = list_any (λ reach. nat_lt reach.start end && nat_lt start reach.furthest) reaches
+is_reached reaches start end = list_any (λ reach. nat_lt reach.start end && nat_lt start reach.furthest)
+    reaches
 
--- the reaches of these events: neither beginnings nor furthest ends fall, and they reach into the spans that the events touch, and into no other (4.7; the form: profile)
+-- the reaches of these events: neither beginnings nor furthest ends fall, and they reach into the spans that
+-- the events touch, and into no other (4.7; the form: profile)
 pub record AreReaches (events : List Event) (reaches : List Reach) : Type 0 where
   pub beginnings : IsNonDecreasingBy (λ reach. reach.start) reaches
   pub ends : IsNonDecreasingBy (λ reach. reach.furthest) reaches

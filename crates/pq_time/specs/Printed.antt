@@ -9,7 +9,8 @@ abbrev pub date_in_year : ℕ → ℕ → ℕ → ℕ → CivilDate
 date_in_year zero year month n = record { year = year; month = month; day = n + 1 }
 date_in_year (suc months) year month n =
     let later = date_in_year months year (month + 1) (n - days_in_month (pos year) month) in
-    if nat_lt n (days_in_month (pos year) month) then record { year = year; month = month; day = n + 1 } else later
+    if nat_lt n (days_in_month (pos year) month) then record { year = year; month = month; day = n + 1 } else
+        later
 
 -- the date that lies n days after 1 January of a year, at most so many years on
 abbrev pub date_from_year : ℕ → ℕ → ℕ → CivilDate
@@ -28,7 +29,8 @@ date_shown moment = date_from_year 799 1600 (since_1600 moment / 86_400_000_000_
 
 -- the time of day, so many nanoseconds after midnight
 abbrev pub time_at : ℕ → TimeOfDay
-time_at n = record { hour = n / 3_600_000_000_000; minute = n / 60_000_000_000 % 60; second = n / 1_000_000_000 % 60; nanosecond = n % 1_000_000_000 }
+time_at n = record { hour = n / 3_600_000_000_000; minute = n / 60_000_000_000 % 60; second =
+    n / 1_000_000_000 % 60; nanosecond = n % 1_000_000_000 }
 
 -- the time of day that a clock in UTC shows
 abbrev pub time_shown : ℤ → TimeOfDay
@@ -43,4 +45,5 @@ unfoldable pub printed_moment : ℤ → Text
 printed_moment moment =
     let d = date_shown moment in
     let t = time_shown moment in
-    padded 4 d.year ++ 45 ∷ padded 2 d.month ++ 45 ∷ padded 2 d.day ++ 84 ∷ hms_text t ++ 46 ∷ padded 9 t.nanosecond ++ 90 ∷ []
+    padded 4 d.year ++ 45 ∷ padded 2 d.month ++ 45 ∷ padded 2 d.day ++ 84 ∷ hms_text t
+        ++ 46 ∷ padded 9 t.nanosecond ++ 90 ∷ []

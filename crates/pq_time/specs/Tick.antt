@@ -1,4 +1,5 @@
--- The subject: ticks, the UTC moments at which a clock interval of 10 s, 10 min or 2 h begins (4.4, 4.5, 5.1). Which ticks a recording has is profile.
+-- The subject: ticks, the UTC moments at which a clock interval of 10 s, 10 min or 2 h begins (4.4, 4.5,
+-- 5.1). Which ticks a recording has is profile.
 -- Sections are those of IEC 61000-4-30:2015; "profile" marks a choice of this project.
 use Rattle.std.specs.Prelude.{◌≡◌, ◌⊎◌, ◌↔◌, ℕ, ◌*◌, ◌^◌, List, ℤ, pos, negsuc, neg_ℤ, ◌+ℤ◌, ◌-ℤ◌, ◌*ℤ◌, ◌≤ℤ◌, Contains}
 use Rattle.std.specs.Int.{int_div_euclid, int_rem_euclid}
@@ -6,7 +7,8 @@ use Rattle.pq_time.specs.declared.clock.Clock.{Clock}
 use Rattle.pq_time.specs.Time.{time_of}
 use Rattle.pq_words.specs.Steps.{steps_from}
 
--- the periods of ticks, in seconds: of frequency readings (5.1), and of 10-minute and 2-hour intervals (4.4, 4.5)
+-- the periods of ticks, in seconds: of frequency readings (5.1), and of 10-minute and 2-hour intervals (4.4,
+-- 4.5)
 abbrev pub IsPeriod : ℕ → Type 0
 IsPeriod period = (period ≡ 10) ⊎ ((period ≡ 600) ⊎ (period ≡ 7200))
 
@@ -14,7 +16,8 @@ IsPeriod period = (period ≡ 10) ⊎ ((period ≡ 600) ⊎ (period ≡ 7200))
 abbrev pub moment_of : ℤ → ℤ
 moment_of second = second *ℤ pos (10 ^ 9)
 
--- the second is a tick of a period in seconds: divisible by it, and from the first sample's moment to that of place n, both included
+-- the second is a tick of a period in seconds: divisible by it, and from the first sample's moment to that of
+-- place n, both included
 pub record IsTick (clock : Clock) (n period : ℕ) (second : ℤ) : Type 0 where
   pub divisible : int_rem_euclid second (pos period) ≡ pos 0
   pub not_before : clock.t0 ≤ℤ (moment_of second)

@@ -1,4 +1,5 @@
--- The subject: dates, times and time codes as a cfg writes them (IEEE C37.111, date/time stamp lines and time code line). Their limits are profile.
+-- The subject: dates, times and time codes as a cfg writes them (IEEE C37.111, date/time stamp lines and time
+-- code line). Their limits are profile.
 use Rattle.std.specs.Prelude.{ℕ, ◌+◌, ◌-◌, ◌*◌, ◌^◌, Bool, ◌&&◌, ◌==◌, nat_le, nat_lt, if◌then◌else◌, List, [], ◌∷◌, length, ℤ, pos, neg_ℤ, Option, Some, None, option_map, option_and_then}
 use Rattle.jiff_core.specs.Calendar.{days_in_month}
 use Rattle.pq_words.specs.Text.{Text, parted_at, digits_between}
@@ -53,13 +54,15 @@ nanoseconds_of fraction = option_map (λ n. n * 10 ^ (9 - length fraction)) (dig
 -- the seconds and, behind a point, their fraction
 abbrev pub second_of : List Text → Option (ℕ × ℕ)
 second_of (ss ∷ []) = option_map (λ s. (s, 0)) (digits_between 1 2 ss)
-second_of (ss ∷ fraction ∷ []) = option_and_then (λ s. option_map (λ n. (s, n)) (nanoseconds_of fraction)) (digits_between 1 2 ss)
+second_of (ss ∷ fraction ∷ []) = option_and_then (λ s. option_map (λ n. (s, n)) (nanoseconds_of fraction))
+    (digits_between 1 2 ss)
 second_of _ = None
 
 -- the time of an hour, a minute, a second and its nanoseconds
 abbrev pub time_of_numbers : ℕ → ℕ → ℕ × ℕ → Option TimeOfDay
 time_of_numbers hour minute second =
-    where_passes is_time_of_day (record { hour = hour; minute = minute; second = second.0; nanosecond = second.1 })
+    where_passes is_time_of_day (record { hour = hour; minute = minute; second = second.0; nanosecond =
+        second.1 })
 
 -- hours, minutes and seconds of one or two digits each
 abbrev pub time_of_parts : List Text → Option TimeOfDay
@@ -75,13 +78,15 @@ time_of text = time_of_parts (parted_at 58 text)
 
 -- hours up to 14 and minutes up to 59, as minutes
 abbrev pub minutes_of_numbers : ℕ → ℕ → Option ℕ
-minutes_of_numbers hours minutes = if nat_le hours 14 && nat_lt minutes 60 then Some (60 * hours + minutes) else None
+minutes_of_numbers hours minutes = if nat_le hours 14 && nat_lt minutes 60 then Some (60 * hours + minutes)
+    else None
 
 -- one or two digits of hours, then optionally `h` and two digits of minutes
 abbrev pub minutes_of_parts : List Text → Option ℕ
 minutes_of_parts (hours ∷ []) = option_and_then (λ h. minutes_of_numbers h 0) (digits_between 1 2 hours)
 minutes_of_parts (hours ∷ minutes ∷ []) =
-    option_and_then (λ h. option_and_then (λ m. minutes_of_numbers h m) (digits_between 2 2 minutes)) (digits_between 1 2 hours)
+    option_and_then (λ h. option_and_then (λ m. minutes_of_numbers h m) (digits_between 2 2 minutes))
+        (digits_between 1 2 hours)
 minutes_of_parts _ = None
 
 -- the minutes that a time code without its sign stands for

@@ -12,7 +12,8 @@ numbers_push low (suc n) =
     ap (λ xs. low ∷ xs) (numbers_push (low + 1) n ∙ ap (λ x. numbers_from (low + 1) n ++ x ∷ []) e)
 
 -- what a function gives of the numbers below n, and then of n
-pub map_below_push : {X : Type 0} (f : ℕ → X) (n : ℕ) → map f (numbers_below (n + 1)) ≡ map f (numbers_below n) ++ f n ∷ []
+pub map_below_push : {X : Type 0} (f : ℕ → X) (n : ℕ) → map f (numbers_below (n + 1))
+    ≡ map f (numbers_below n) ++ f n ∷ []
 map_below_push f n =
     let e : 0 + n ≡ n = omega arith in
     ap (λ m. map f (numbers_below m)) (add-one n)

@@ -1,4 +1,5 @@
--- The subject: reading from left to right, with the first fault that is met, and what a function that reads so may answer (profile).
+-- The subject: reading from left to right, with the first fault that is met, and what a function that reads
+-- so may answer (profile).
 use Rattle.std.specs.Prelude.{◌≡◌, Bool, ◌⊎◌, if◌then◌else◌, Result, Ok, Err}
 
 -- the step after a step that found no fault; a fault ends the reading

@@ -15,22 +15,27 @@ use Rattle.pq_words.specs.Steps.{numbers_from, numbers_below}
 
 -- a start more
 begins_at : (starts : List ℕ) (g m x : ℕ) (b : Bool) → nat_le g x ≡ b
-    → option_map_or (λ s. (x - s) % m == 0) (cond b (Some g) (latest_start starts x)) false ≡ cond b ((x - g) % m == 0) (begins_run starts m x)
+    → option_map_or (λ s. (x - s) % m == 0) (cond b (Some g) (latest_start starts x)) false
+        ≡ cond b ((x - g) % m == 0) (begins_run starts m x)
 begins_at starts g m x true is = refl
 begins_at starts g m x false is = refl
 
-pub begins_push : (starts : List ℕ) (g m x : ℕ) → begins_run (starts ++ g ∷ []) m x ≡ cond (nat_le g x) ((x - g) % m == 0) (begins_run starts m x)
+pub begins_push : (starts : List ℕ) (g m x : ℕ) → begins_run (starts ++ g ∷ []) m x
+    ≡ cond (nat_le g x) ((x - g) % m == 0) (begins_run starts m x)
 begins_push starts g m x =
-    ap (λ s. option_map_or (λ s. (x - s) % m == 0) (find (λ s. nat_le s x) s) false) (reverse-append starts (g ∷ []))
+    ap (λ s. option_map_or (λ s. (x - s) % m == 0) (find (λ s. nat_le s x) s) false)
+        (reverse-append starts (g ∷ []))
     ∙ begins_at starts g m x (nat_le g x) refl
 
 -- before it nothing changes, and from it on whole lengths count
-pub begins_before : (starts : List ℕ) (g m x : ℕ) → x < g → begins_run starts m x ≡ begins_run (starts ++ g ∷ []) m x
+pub begins_before : (starts : List ℕ) (g m x : ℕ) → x < g → begins_run starts m x
+    ≡ begins_run (starts ++ g ∷ []) m x
 begins_before starts g m x early =
     let no : nat_le g x ≡ false = grind (arith, nat_tests, early) in
     sym (begins_push starts g m x ∙ ap (λ b. cond b ((x - g) % m == 0) (begins_run starts m x)) no)
 
-pub begins_from : (starts : List ℕ) (g m x : ℕ) → g ≤ x → begins_run (starts ++ g ∷ []) m x ≡ ((x - g) % m == 0)
+pub begins_from : (starts : List ℕ) (g m x : ℕ) → g ≤ x → begins_run (starts ++ g ∷ []) m x
+    ≡ ((x - g) % m == 0)
 begins_from starts g m x late =
     let is : nat_le g x ≡ true = grind (arith, nat_tests, late) in
     begins_push starts g m x ∙ ap (λ b. cond b ((x - g) % m == 0) (begins_run starts m x)) is
@@ -42,7 +47,8 @@ runs_below starts m bound = map (run_from m) (filter (begins_run starts m) (numb
 -- with no start there is none
 pub none_below : (m bound : ℕ) → [] ≡ runs_below [] m bound
 unfolding runs_below
-none_below m bound = ap (map (run_from m)) (sym (filter_nothing (begins_run [] m) 0 bound (λ x from below. refl)))
+none_below m bound = ap (map (run_from m)) (sym (filter_nothing (begins_run [] m) 0 bound
+    (λ x from below. refl)))
 
 map_runs : (g m n : ℕ) → map (run_from m) (map (λ k. g + k * m) (numbers_below n)) ≡ runs_after m g n
 unfolding runs_after
@@ -53,16 +59,22 @@ map_runs g m n = at (numbers_below n)
     at (k ∷ ks) = ap (λ rs. run_from m (g + k * m) ∷ rs) (at ks)
 
 -- a start more, up to some index after it
-from_start : (starts : List ℕ) (g m n : ℕ) → 1 ≤ m → runs_below starts m g ++ runs_after m g (div_ceil n m) ≡ runs_below (starts ++ g ∷ []) m (g + n)
+from_start : (starts : List ℕ) (g m n : ℕ) → 1 ≤ m → runs_below starts m g ++ runs_after m g (div_ceil n m)
+    ≡ runs_below (starts ++ g ∷ []) m (g + n)
 unfolding runs_below
 from_start starts g m n some =
     let test : ℕ → Bool = begins_run (starts ++ g ∷ []) m in
-    let front : filter (begins_run starts m) (numbers_from 0 g) ≡ filter test (numbers_from 0 g) = filter_agree (begins_run starts m) test 0 g (λ x from below. begins_before starts g m x (omega (arith, below))) in
+    let front : filter (begins_run starts m) (numbers_from 0 g) ≡ filter test (numbers_from 0 g) =
+        filter_agree (begins_run starts m) test 0 g (λ x from below. begins_before starts g m x
+        (omega (arith, below))) in
     let whole : filter test (numbers_from g n) ≡ map (λ k. g + k * m) (numbers_below (div_ceil n m)) =
-    filter_agree test (λ x. (x - g) % m == 0) g n (λ x from below. begins_from starts g m x from) ∙ multiples g m n some in
+    filter_agree test (λ x. (x - g) % m == 0) g n (λ x from below. begins_from starts g m x from)
+        ∙ multiples g m n some in
     let here : 0 + g ≡ g = omega arith in
-    let all : filter test (numbers_from 0 (g + n)) ≡ filter test (numbers_from 0 g) ++ filter test (numbers_from g n) =
-    ap (filter test) (numbers_split 0 g n ∙ ap (λ l. numbers_from 0 g ++ numbers_from l n) here) ∙ filter-append test (numbers_from 0 g) (numbers_from g n) in
+    let all : filter test (numbers_from 0 (g + n)) ≡ filter test (numbers_from 0 g)
+        ++ filter test (numbers_from g n) =
+    ap (filter test) (numbers_split 0 g n ∙ ap (λ l. numbers_from 0 g ++ numbers_from l n) here)
+        ∙ filter-append test (numbers_from 0 g) (numbers_from g n) in
     ap (λ xs. map (run_from m) xs ++ runs_after m g (div_ceil n m)) front
     ∙ ap (λ rs. map (run_from m) (filter test (numbers_from 0 g)) ++ rs) (sym (map_runs g m (div_ceil n m)))
     ∙ ap (λ xs. map (run_from m) (filter test (numbers_from 0 g)) ++ map (run_from m) xs) (sym whole)
@@ -70,18 +82,25 @@ from_start starts g m n some =
     ∙ ap (map (run_from m)) (sym all)
 
 -- a start at the end or past it begins nothing
-past_end : (starts : List ℕ) (g m bound : ℕ) → bound ≤ g → runs_below starts m bound ≡ runs_below (starts ++ g ∷ []) m bound
+past_end : (starts : List ℕ) (g m bound : ℕ) → bound ≤ g → runs_below starts m bound
+    ≡ runs_below (starts ++ g ∷ []) m bound
 unfolding runs_below
-past_end starts g m bound late = ap (map (run_from m)) (filter_agree (begins_run starts m) (begins_run (starts ++ g ∷ []) m) 0 bound (λ x from below. begins_before starts g m x (omega (arith, below, late))))
+past_end starts g m bound late = ap (map (run_from m))
+    (filter_agree (begins_run starts m) (begins_run (starts ++ g ∷ []) m) 0 bound
+    (λ x from below. begins_before starts g m x (omega (arith, below, late))))
 
 -- one start more of a rising list
-pub chop_step : (starts : List ℕ) (i g next m end : ℕ) (old now : List Span) → 1 ≤ m → i < length starts → get_or starts i g ≡ g → (end ≤ next) ⊎ (g < next)
-    → old ≡ runs_below (take i starts) m (min (get_or starts i end) end) → now ≡ old ++ runs_after m g (div_ceil (min next end - g) m)
+pub chop_step : (starts : List ℕ) (i g next m end : ℕ) (old now : List Span) → 1 ≤ m → i < length starts →
+    get_or starts i g ≡ g → (end ≤ next) ⊎ (g < next)
+    → old ≡ runs_below (take i starts) m (min (get_or starts i end) end) → now ≡ old
+        ++ runs_after m g (div_ceil (min next end - g) m)
     → now ≡ runs_below (take (i + 1) starts) m (min next end)
 chop_step starts i g next m end old now some inside is later before after =
     let here : get_or starts i end ≡ g = get_or_default starts i end g inside ∙ is in
-    let longer : take (i + 1) starts ≡ take i starts ++ g ∷ [] = take_more starts i g inside ∙ ap (λ s. take i starts ++ s ∷ []) is in
-    let old_is : old ≡ runs_below (take i starts) m (min g end) = before ∙ ap (λ s. runs_below (take i starts) m (min s end)) here in
+    let longer : take (i + 1) starts ≡ take i starts ++ g ∷ [] = take_more starts i g inside
+        ∙ ap (λ s. take i starts ++ s ∷ []) is in
+    let old_is : old ≡ runs_below (take i starts) m (min g end) = before
+        ∙ ap (λ s. runs_below (take i starts) m (min s end)) here in
     elim (cases_lt g end) [
       | inl early ↦
           let n : ℕ = min next end - g in
@@ -116,16 +135,22 @@ chop_step starts i g next m end old now some inside is later before after =
     at_end (inr h) past = omega (arith, h, past)
 
 -- the next start is later, or there is none
-pub next_later : (starts : List ℕ) (i end : ℕ) → IsStrictlyIncreasing starts → i < length starts → (end ≤ get_or starts (i + 1) end) ⊎ (get_or starts i 0 < get_or starts (i + 1) end)
+pub next_later : (starts : List ℕ) (i end : ℕ) → IsStrictlyIncreasing starts → i < length starts →
+    (end ≤ get_or starts (i + 1) end) ⊎ (get_or starts i 0 < get_or starts (i + 1) end)
 next_later starts i end rising inside =
     elim (cases_lt (i + 1) (length starts)) [
-      | inl more ↦ let same : get_or starts (i + 1) end ≡ get_or starts (i + 1) 0 = get_or_default starts (i + 1) end 0 more in inr (omega (arith, rising i more, same))
-      | inr last ↦ let past : get_or starts (i + 1) end ≡ end = get_or_past starts (i + 1) end last in inl (omega (arith, past))
+      | inl more ↦ let same : get_or starts (i + 1) end ≡ get_or starts (i + 1) 0 =
+          get_or_default starts (i + 1) end 0 more in inr (omega (arith, rising i more, same))
+      | inr last ↦ let past : get_or starts (i + 1) end ≡ end = get_or_past starts (i + 1) end last in
+          inl (omega (arith, past))
     ]
 
 -- after the last start
-pub chop_end : (starts : List ℕ) (i m count end : ℕ) → 1 ≤ m → length starts ≤ i → end ≡ count - (m - 1) → runs_below (take i starts) m (min (get_or starts i end) end) ≡ runs starts m count
+pub chop_end : (starts : List ℕ) (i m count end : ℕ) → 1 ≤ m → length starts ≤ i → end ≡ count - (m - 1) →
+    runs_below (take i starts) m (min (get_or starts i end) end) ≡ runs starts m count
 unfolding runs_below runs
 chop_end starts i m count end some past is =
-    let bound : min (get_or starts i end) end ≡ count + 1 - m = let none : get_or starts i end ≡ end = get_or_past starts i end past in omega (arith, none, is, some) in
-    ap (λ s. runs_below s m (min (get_or starts i end) end)) (take_all i starts past) ∙ ap (runs_below starts m) bound
+    let bound : min (get_or starts i end) end ≡ count + 1 - m = let none : get_or starts i end ≡ end =
+        get_or_past starts i end past in omega (arith, none, is, some) in
+    ap (λ s. runs_below s m (min (get_or starts i end) end)) (take_all i starts past)
+        ∙ ap (runs_below starts m) bound

@@ -19,35 +19,43 @@ numbers_split low zero b =
 numbers_split low (suc a) b =
     let more : suc a + b ≡ suc (a + b) = omega arith in
     let on : low + 1 + a ≡ low + suc a = omega arith in
-    ap (numbers_from low) more ∙ ap (λ xs. low ∷ xs) (numbers_split (low + 1) a b ∙ ap (λ l. numbers_from (low + 1) a ++ numbers_from l b) on)
+    ap (numbers_from low) more ∙ ap (λ xs. low ∷ xs)
+        (numbers_split (low + 1) a b ∙ ap (λ l. numbers_from (low + 1) a ++ numbers_from l b) on)
 
 -- one element more
-pub filter_push : {X : Type 0} (p : X → Bool) (xs : List X) (x : X) → filter p (xs ++ x ∷ []) ≡ filter p xs ++ cond (p x) (x ∷ []) []
+pub filter_push : {X : Type 0} (p : X → Bool) (xs : List X) (x : X) → filter p (xs ++ x ∷ []) ≡ filter p xs
+    ++ cond (p x) (x ∷ []) []
 filter_push p xs x = filter-append p xs (x ∷ []) ∙ ap (λ ys. filter p xs ++ ys) (at (p x))
   where
     at : (b : Bool) → cond b (x ∷ []) [] ≡ cond b (x ∷ []) []
     at b = refl
 
 -- one number more
-pub numbers_filter_push : (p : ℕ → Bool) (low n : ℕ) → filter p (numbers_from low (suc n)) ≡ filter p (numbers_from low n) ++ cond (p (low + n)) ((low + n) ∷ []) []
-numbers_filter_push p low n = ap (filter p) (numbers_push low n) ∙ filter_push p (numbers_from low n) (low + n)
+pub numbers_filter_push : (p : ℕ → Bool) (low n : ℕ) → filter p (numbers_from low (suc n))
+    ≡ filter p (numbers_from low n) ++ cond (p (low + n)) ((low + n) ∷ []) []
+numbers_filter_push p low n = ap (filter p) (numbers_push low n)
+    ∙ filter_push p (numbers_from low n) (low + n)
 
 -- two tests that agree on some numbers
-pub filter_agree : (p q : ℕ → Bool) (low n : ℕ) → ((x : ℕ) → low ≤ x → x < low + n → p x ≡ q x) → filter p (numbers_from low n) ≡ filter q (numbers_from low n)
+pub filter_agree : (p q : ℕ → Bool) (low n : ℕ) → ((x : ℕ) → low ≤ x → x < low + n → p x ≡ q x) →
+    filter p (numbers_from low n) ≡ filter q (numbers_from low n)
 unfolding numbers_from
 filter_agree p q low zero same = refl
 filter_agree p q low (suc n) same =
     let here : p low ≡ q low = same low (omega arith) (omega arith) in
-    let rest : filter p (numbers_from (low + 1) n) ≡ filter q (numbers_from (low + 1) n) = filter_agree p q (low + 1) n (λ x from below. same x (omega (arith, from)) (omega (arith, below))) in
+    let rest : filter p (numbers_from (low + 1) n) ≡ filter q (numbers_from (low + 1) n) =
+        filter_agree p q (low + 1) n (λ x from below. same x (omega (arith, from)) (omega (arith, below))) in
     ap (λ b. cond b (low ∷ filter p (numbers_from (low + 1) n)) (filter p (numbers_from (low + 1) n))) here
     ∙ ap (λ xs. cond (q low) (low ∷ xs) xs) rest
 
 -- a test that none of some numbers passes
-pub filter_nothing : (p : ℕ → Bool) (low n : ℕ) → ((x : ℕ) → low ≤ x → x < low + n → p x ≡ false) → filter p (numbers_from low n) ≡ []
+pub filter_nothing : (p : ℕ → Bool) (low n : ℕ) → ((x : ℕ) → low ≤ x → x < low + n → p x ≡ false) →
+    filter p (numbers_from low n) ≡ []
 unfolding numbers_from
 filter_nothing p low zero fails = refl
 filter_nothing p low (suc n) fails =
-    ap (λ b. cond b (low ∷ filter p (numbers_from (low + 1) n)) (filter p (numbers_from (low + 1) n))) (fails low (omega arith) (omega arith))
+    ap (λ b. cond b (low ∷ filter p (numbers_from (low + 1) n)) (filter p (numbers_from (low + 1) n)))
+        (fails low (omega arith) (omega arith))
     ∙ filter_nothing p (low + 1) n (λ x from below. fails x (omega (arith, from)) (omega (arith, below)))
 
 -- ---- whole lengths after a number
@@ -70,7 +78,8 @@ next_quotient n m some =
           omega (arith, some, same, product, whole)
     ]
 
-rounded_up_whole : (n m : ℕ) → 1 ≤ m → n % m ≡ 0 → (div_ceil n m * m ≡ n) × (div_ceil (n + 1) m ≡ div_ceil n m + 1)
+rounded_up_whole : (n m : ℕ) → 1 ≤ m → n % m ≡ 0 → (div_ceil n m * m ≡ n) ×
+    (div_ceil (n + 1) m ≡ div_ceil n m + 1)
 rounded_up_whole n m some whole =
     let same : div_ceil n m ≡ n / m = omega (arith, whole) in
     let product : div_ceil n m * m ≡ n / m * m = ap (λ q. q * m) same in
@@ -80,7 +89,8 @@ rounded_up_part : (n m : ℕ) → 1 ≤ m → 0 < n % m → div_ceil (n + 1) m �
 rounded_up_part n m some part = omega (arith, next_quotient n m some, part)
 
 multiple_step : (g m n : ℕ) (b : Bool) → 1 ≤ m → (n % m == 0) ≡ b
-    → map (λ k. g + k * m) (numbers_below (div_ceil n m)) ++ cond b ((g + n) ∷ []) [] ≡ map (λ k. g + k * m) (numbers_below (div_ceil (n + 1) m))
+    → map (λ k. g + k * m) (numbers_below (div_ceil n m)) ++ cond b ((g + n) ∷ []) []
+        ≡ map (λ k. g + k * m) (numbers_below (div_ceil (n + 1) m))
 multiple_step g m n true some is =
     let r = rounded_up_whole n m some (grind (arith, nat_tests, is)) in
     let last : g + n ≡ g + div_ceil n m * m = omega (arith, r.0) in
@@ -89,14 +99,16 @@ multiple_step g m n true some is =
     ∙ ap (λ c. map (λ k. g + k * m) (numbers_below c)) (sym r.1)
 multiple_step g m n false some is =
     let r = rounded_up_part n m some (grind (arith, nat_tests, is)) in
-    append-nil (map (λ k. g + k * m) (numbers_below (div_ceil n m))) ∙ ap (λ c. map (λ k. g + k * m) (numbers_below c)) (sym r)
+    append-nil (map (λ k. g + k * m) (numbers_below (div_ceil n m)))
+        ∙ ap (λ c. map (λ k. g + k * m) (numbers_below c)) (sym r)
 
 -- no numbers have no length
 pub nothing_up : (m : ℕ) → 1 ≤ m → div_ceil 0 m ≡ 0
 nothing_up m some = let q : 0 / m ≡ 0 = div-eq_of_lt some in omega (arith, q, some)
 
 -- of n numbers from g on, those a whole number of lengths after it
-pub multiples : (g m n : ℕ) → 1 ≤ m → filter (λ x. (x - g) % m == 0) (numbers_from g n) ≡ map (λ k. g + k * m) (numbers_below (div_ceil n m))
+pub multiples : (g m n : ℕ) → 1 ≤ m → filter (λ x. (x - g) % m == 0) (numbers_from g n)
+    ≡ map (λ k. g + k * m) (numbers_below (div_ceil n m))
 unfolding numbers_from
 multiples g m zero some =
     ap (λ c. map (λ k. g + k * m) (numbers_below c)) (sym (nothing_up m some))
@@ -105,6 +117,7 @@ multiples g m (suc n) some =
     let next : suc n ≡ n + 1 = omega arith in
     numbers_filter_push (λ x. (x - g) % m == 0) g n
     ∙ ap (λ xs. xs ++ cond ((g + n - g) % m == 0) ((g + n) ∷ []) []) (multiples g m n some)
-    ∙ ap (λ i. map (λ k. g + k * m) (numbers_below (div_ceil n m)) ++ cond (i % m == 0) ((g + n) ∷ []) []) back
+    ∙ ap (λ i. map (λ k. g + k * m) (numbers_below (div_ceil n m)) ++ cond (i % m == 0) ((g + n) ∷ []) [])
+        back
     ∙ multiple_step g m n (n % m == 0) some refl
     ∙ ap (λ i. map (λ k. g + k * m) (numbers_below (div_ceil i m))) (sym next)

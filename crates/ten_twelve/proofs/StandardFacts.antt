@@ -8,18 +8,22 @@ use Rattle.pq_words.specs.Steps.{numbers_from}
 abbrev begun : List Span → List ℕ
 begun spans = map (λ s. s.start) spans
 
--- fronts 0 and 24 over 49 cycles, ten each: the run [20,30) over the front is completed, and overlaps the first one after it
-pub run_over_front : (begun (runs (0 ∷ 24 ∷ []) 10 49) ≡ 0 ∷ 10 ∷ 20 ∷ 24 ∷ 34 ∷ []) × (map (λ s. s.end) (runs (0 ∷ 24 ∷ []) 10 49) ≡ 10 ∷ 20 ∷ 30 ∷ 34 ∷ 44 ∷ [])
+-- fronts 0 and 24 over 49 cycles, ten each: the run [20,30) over the front is completed, and overlaps the
+-- first one after it
+pub run_over_front : (begun (runs (0 ∷ 24 ∷ []) 10 49) ≡ 0 ∷ 10 ∷ 20 ∷ 24 ∷ 34 ∷ []) ×
+    (map (λ s. s.end) (runs (0 ∷ 24 ∷ []) 10 49) ≡ 10 ∷ 20 ∷ 30 ∷ 34 ∷ 44 ∷ [])
 unfolding runs numbers_from
 run_over_front = (refl, refl)
 
 -- a start at the very end begins nothing, and before the first start there is no run
-pub runs_at_edges : (begun (runs (0 ∷ 20 ∷ []) 10 20) ≡ 0 ∷ 10 ∷ []) × (runs (0 ∷ []) 10 9 ≡ []) × (begun (runs (3 ∷ []) 2 8) ≡ 3 ∷ 5 ∷ []) × (runs [] 2 8 ≡ [])
+pub runs_at_edges : (begun (runs (0 ∷ 20 ∷ []) 10 20) ≡ 0 ∷ 10 ∷ []) × (runs (0 ∷ []) 10 9 ≡ []) ×
+    (begun (runs (3 ∷ []) 2 8) ≡ 3 ∷ 5 ∷ []) × (runs [] 2 8 ≡ [])
 unfolding runs numbers_from
 runs_at_edges = (refl, refl, refl, refl)
 
 -- twelve cycles a run
-pub runs_of_twelve : runs (0 ∷ []) 12 24 ≡ record { start = 0; end = 12 } ∷ record { start = 12; end = 24 } ∷ []
+pub runs_of_twelve : runs (0 ∷ []) 12 24 ≡ record { start = 0; end = 12 } ∷ record { start = 12; end = 24 } ∷
+    []
 unfolding runs numbers_from
 runs_of_twelve = refl
 
@@ -33,14 +37,17 @@ abbrev at : Bool → ℕ → ℕ → Element
 at front start end = record { front = front; span = record { start = start; end = end } }
 
 -- elements of ten places each, the fourth of which begins anew at place 25: runs of two
-pub chopped_elements : chopped 2 (at true 0 10 ∷ at false 10 20 ∷ at false 20 30 ∷ at true 25 35 ∷ at false 35 45 ∷ [])
+pub chopped_elements : chopped 2 (at true 0 10 ∷ at false 10 20 ∷ at false 20 30 ∷ at true 25 35 ∷ at false 35
+    45 ∷ [])
     ≡ record { start = 0; end = 20 } ∷ record { start = 20; end = 35 } ∷ record { start = 25; end = 45 } ∷ []
 unfolding chopped runs marked numbers_from
 chopped_elements = refl
 
 -- at the front the run of two elements lacks one, and behind it, of runs of three, two lack elements
-pub pending_at_front : (pending_runs 2 (at true 0 10 ∷ at false 10 20 ∷ at false 20 30 ∷ []) ≡ record { start = 20; count = 1 } ∷ [])
-    × (pending_runs 3 (at true 0 10 ∷ at true 5 15 ∷ []) ≡ record { start = 0; count = 2 } ∷ record { start = 5; count = 1 } ∷ [])
+pub pending_at_front : (pending_runs 2 (at true 0 10 ∷ at false 10 20 ∷ at false 20 30 ∷ [])
+    ≡ record { start = 20; count = 1 } ∷ [])
+    × (pending_runs 3 (at true 0 10 ∷ at true 5 15 ∷ [])
+        ≡ record { start = 0; count = 2 } ∷ record { start = 5; count = 1 } ∷ [])
     × (pending_runs 3 (at true 0 10 ∷ at false 10 20 ∷ at false 20 30 ∷ []) ≡ [])
 unfolding pending_runs marked numbers_from
 pending_at_front = (refl, refl, refl)

@@ -12,7 +12,8 @@ unfolding runs_after numbers_from
 no_runs spans m g = sym (append-nil spans)
 
 -- one run more
-pub one_run : (old now : List Span) (m g k start end : ℕ) → now ≡ old ++ runs_after m g k → start ≡ g + k * m → end ≡ start + m → now ++ record { start = start; end = end } ∷ [] ≡ old ++ runs_after m g (k + 1)
+pub one_run : (old now : List Span) (m g k start end : ℕ) → now ≡ old ++ runs_after m g k → start ≡ g + k * m
+    → end ≡ start + m → now ++ record { start = start; end = end } ∷ [] ≡ old ++ runs_after m g (k + 1)
 unfolding runs_after
 one_run old now m g k start end is begins ends =
     ap (λ xs. xs ++ record { start = start; end = end } ∷ []) is

@@ -13,7 +13,8 @@ abbrev pub BeginsAtFront : List Element → Type 0
 BeginsAtFront [] = Unit {0}
 BeginsAtFront (e ∷ es) = e.front ≡ true
 
--- a list that a chopper may be fed: the first element is a front, and at most two runs lack elements (profile)
+-- a list that a chopper may be fed: the first element is a front, and at most two runs lack elements
+-- (profile)
 pub record IsFed (length_of_run : ℕ) (elements : List Element) : Type 0 where
   pub first : BeginsAtFront elements
   pub few : length (pending_runs length_of_run elements) ≤ 2
@@ -32,8 +33,10 @@ MayFollow c e = (fed : List Element) × HasSeen c fed × IsFed c.length (fed ++ 
 
 -- whatever list the chopper has seen that the element may follow, the element completes this run, or none
 abbrev pub Completes : Chopping → Element → Option Span → Type 0
-Completes c e answer = (fed : List Element) → HasSeen c fed → IsFed c.length (fed ++ e ∷ []) → CompletesAtLast c.length fed e answer
+Completes c e answer = (fed : List Element) → HasSeen c fed → IsFed c.length (fed ++ e ∷ []) →
+    CompletesAtLast c.length fed e answer
 
 -- whatever list the chopper had seen that the element may follow, it has now seen one more
 abbrev pub SeesMore : Chopping → Chopping → Element → Type 0
-SeesMore old new e = (fed : List Element) → HasSeen old fed → IsFed old.length (fed ++ e ∷ []) → HasSeen new (fed ++ e ∷ [])
+SeesMore old new e = (fed : List Element) → HasSeen old fed → IsFed old.length (fed ++ e ∷ []) →
+    HasSeen new (fed ++ e ∷ [])

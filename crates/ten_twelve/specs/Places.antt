@@ -10,7 +10,8 @@ shown run = record { start = run.start; count = run.count }
 
 -- the runs in both places, the oldest first
 abbrev pub pending_of : Places → List Pending
-pending_of places = option_to_list (option_map shown places.older) ++ option_to_list (option_map shown places.latest)
+pending_of places = option_to_list (option_map shown places.older)
+    ++ option_to_list (option_map shown places.latest)
 
 -- a run with one element more
 abbrev pub grown : Pending → Pending
@@ -31,9 +32,11 @@ abbrev pub is_nil : List Pending → Bool
 is_nil [] = true
 is_nil (run ∷ runs) = false
 
--- the runs that lack elements after one more element, with its start: a new one at a front, or where there was none
+-- the runs that lack elements after one more element, with its start: a new one at a front, or where there
+-- was none
 abbrev pub next_pending : ℕ → List Pending → Bool → ℕ → List Pending
-next_pending length runs front start = others length (map grown runs) ++ (if front || is_nil runs then record { start = start; count = 1 } ∷ [] else [])
+next_pending length runs front start = others length (map grown runs)
+    ++ (if front || is_nil runs then record { start = start; count = 1 } ∷ [] else [])
 
 -- each run lacks elements, the older one has more than the latest, and there is no older one without a latest
 pub record ArePlaces (length : ℕ) (places : Places) : Type 0 where

@@ -1,4 +1,5 @@
--- The subject: runs of consecutive elements, as 10 or 12 cycles and 15 basic intervals are (4.5). Where they begin anew is profile.
+-- The subject: runs of consecutive elements, as 10 or 12 cycles and 15 basic intervals are (4.5). Where they
+-- begin anew is profile.
 -- Sections are those of IEC 61000-4-30:2015; "profile" marks a choice of this project.
 use Rattle.std.specs.Prelude.{◌≡◌, ℕ, ◌+◌, ◌-◌, ◌*◌, ◌%◌, ◌≤◌, Bool, ◌==◌, false, nat_le, List, [], ◌∷◌, ◌++◌, length, map, filter, find, reverse, Option, option_to_list, slice_get, All}
 use Rattle.std.specs.Option.{option_map_or}
@@ -7,7 +8,8 @@ use Rattle.std.specs.List.Sorted.{IsStrictlyIncreasing}
 use Rattle.ten_twelve.specs.declared.span.Span.{Span}
 use Rattle.pq_words.specs.Steps.{numbers_from, numbers_below}
 
--- how many elements a run may have: 10 or 12 cycles, and 15 basic intervals, are among them (4.5; others are profile)
+-- how many elements a run may have: 10 or 12 cycles, and 15 basic intervals, are among them (4.5; others are
+-- profile)
 abbrev pub IsRunLength : ℕ → Type 0
 IsRunLength length = (1 ≤ length) × (length ≤ 15)
 
@@ -32,9 +34,11 @@ run_from length x = record { start = x; end = x + length }
 unfoldable pub runs_after : ℕ → ℕ → ℕ → List Span
 runs_after length from n = map (λ k. run_from length (from + k * length)) (numbers_below n)
 
--- the runs over `count` elements, as spans of indices: one from each index where one begins, if all its elements are there
+-- the runs over `count` elements, as spans of indices: one from each index where one begins, if all its
+-- elements are there
 unfoldable pub runs : List ℕ → ℕ → ℕ → List Span
-runs starts length count = map (run_from length) (filter (begins_run starts length) (numbers_below (count + 1 - length)))
+runs starts length count = map (run_from length) (filter (begins_run starts length)
+    (numbers_below (count + 1 - length)))
 
 -- an element, and whether it is a start
 pub record Element : Type 0 where
@@ -62,11 +66,13 @@ spanned elements run = record { start = start_at elements run.start; end = end_a
 
 -- the runs over marked elements, each as what it spans
 unfoldable pub chopped : ℕ → List Element → List Span
-chopped length_of_run elements = map (spanned elements) (runs (fronts elements) length_of_run (length elements))
+chopped length_of_run elements = map (spanned elements)
+    (runs (fronts elements) length_of_run (length elements))
 
 -- one more element completes a run, or none
 abbrev pub CompletesAtLast : ℕ → List Element → Element → Option Span → Type 0
-CompletesAtLast length_of_run fed e answer = chopped length_of_run (fed ++ e ∷ []) ≡ chopped length_of_run fed ++ option_to_list answer
+CompletesAtLast length_of_run fed e answer = chopped length_of_run (fed ++ e ∷ []) ≡ chopped length_of_run fed
+    ++ option_to_list answer
 
 -- a run that lacks elements: where its first element starts, and how many elements it has
 pub record Pending : Type 0 where
@@ -80,4 +86,5 @@ pending_from elements x = record { start = start_at elements x; count = length e
 unfoldable pub pending_runs : ℕ → List Element → List Pending
 pending_runs length_of_run elements =
     let first = length elements + 1 - length_of_run in
-    map (pending_from elements) (filter (begins_run (fronts elements) length_of_run) (numbers_from first (length elements - first)))
+    map (pending_from elements) (filter (begins_run (fronts elements) length_of_run)
+        (numbers_from first (length elements - first)))

@@ -4,7 +4,8 @@ use Rattle.cfg_fields.proofs.lines.first_field.Goals as goal
 
 -- a comma was found
 pub returns-in-Some-clause-value : goal.returns-in-Some-clause-value
-returns-in-Some-clause-value c = rw c.trimmed.ensures (fields_cut c.args.text.now c.in-Some.end (sym c.in-Some.ensures.value))
+returns-in-Some-clause-value c = rw c.trimmed.ensures
+    (fields_cut c.args.text.now c.in-Some.end (sym c.in-Some.ensures.value))
 
 -- no comma was found
 pub returns-in-None-clause-none : goal.returns-in-None-clause-none

@@ -6,7 +6,8 @@ use Rattle.cfg_fields.proofs.lines.only_blank_lines.Given as goal
 abbrev pub invariant-loop-line : goal.invariant-loop-line
 invariant-loop-line l = record {
   bound : l.number + length l.rest < 2 ^ 32;
-  same : only_blank_lines l.number (lines l.rest) ≡ only_blank_lines l.fn.cursor.number (lines l.fn.cursor.rest.now);
+  same : only_blank_lines l.number (lines l.rest) ≡ only_blank_lines l.fn.cursor.number
+      (lines l.fn.cursor.rest.now);
 }
 
 abbrev pub decreases-loop-line : goal.decreases-loop-line

@@ -7,18 +7,25 @@ use Rattle.comtrade_cfg.proofs.channels.read_analogue.Goals as goal
 -- a line is at fault
 pub returns-in_err-channel : goal.returns-in_err-channel
 returns-in_err-channel c =
-    let p = err_from_is_err_and c.from_residual-in_err-channel.result c.from_residual-in_err-channel.ensures.1 in
-    rw (p.1, p.2) (ends analogue_line c.loop-index.channels.items c.args.count c.loop-index.index (ahead c.loop-index.after) c.in_err-channel.field-0.0
-    (channel_lines analogue_line 1 c.args.count (ahead c.args.cursor)) c.loop-index-test.true c.in_err-channel.ensures c.loop-index.invariant)
+    let p = err_from_is_err_and c.from_residual-in_err-channel.result c.from_residual-in_err-channel.ensures.1
+        in
+    rw (p.1, p.2) (ends analogue_line c.loop-index.channels.items c.args.count c.loop-index.index
+        (ahead c.loop-index.after) c.in_err-channel.field-0.0
+    (channel_lines analogue_line 1 c.args.count (ahead c.args.cursor)) c.loop-index-test.true
+        c.in_err-channel.ensures c.loop-index.invariant)
 
 -- one line more
 pub loop-index-preserved : goal.loop-index-preserved
 loop-index-preserved c =
-    rw c.in_ok-push.ensures.items (goes_on analogue_line c.loop-index.channels.items c.args.count c.loop-index.index (ahead c.loop-index.after) (ahead c.in_ok-channel.next)
-    c.in_ok-channel.channel (channel_lines analogue_line 1 c.args.count (ahead c.args.cursor)) c.loop-index-test.true c.in_ok-channel.ensures c.loop-index.invariant)
+    rw c.in_ok-push.ensures.items (goes_on analogue_line c.loop-index.channels.items c.args.count
+        c.loop-index.index (ahead c.loop-index.after) (ahead c.in_ok-channel.next)
+    c.in_ok-channel.channel (channel_lines analogue_line 1 c.args.count (ahead c.args.cursor))
+        c.loop-index-test.true c.in_ok-channel.ensures c.loop-index.invariant)
 
 -- all lines are read
 pub returns : goal.returns
 returns c =
-    is_done analogue_line c.loop-index.channels.items c.args.count c.loop-index.index (ahead c.loop-index.after)
-    (channel_lines analogue_line 1 c.args.count (ahead c.args.cursor)) c.loop-index-test.false c.loop-index.invariant
+    is_done analogue_line c.loop-index.channels.items c.args.count c.loop-index.index
+        (ahead c.loop-index.after)
+    (channel_lines analogue_line 1 c.args.count (ahead c.args.cursor)) c.loop-index-test.false
+        c.loop-index.invariant

@@ -6,5 +6,6 @@ use Rattle.comtrade_cfg.proofs.choosing.judge_values.Given as goal
 
 abbrev pub invariant-loop-position : goal.invariant-loop-position
 invariant-loop-position l =
-    values_within_limit l.channels (filter (λ p. is_among l.chosen (p + 1)) (range_with_len l.position (length l.channels - l.position)))
+    values_within_limit l.channels (filter (λ p. is_among l.chosen (p + 1))
+        (range_with_len l.position (length l.channels - l.position)))
     ≡ values_within_limit l.channels (positions_of l.channels l.chosen)

@@ -16,6 +16,8 @@ judge_values-requires c = rw c.as_slice-channels.ensures.value (few (view c.args
 
 pub reference_of-requires : goal.reference_of-requires
 reference_of-requires c =
-    let few_channels : length c.args.cfg.now.analogue.items ≤ 999 = (few (view c.args.cfg.now) c.requires).0 in
+    let few_channels : length c.args.cfg.now.analogue.items ≤ 999 =
+        (few (view c.args.cfg.now) c.requires).0 in
     let most = few_chosen c.args.cfg.now.analogue.items c.as_slice-2.result.now in
-    rw (c.as_slice-3.ensures.value, c.in_ok-positions.ensures.value, c.as_slice-channels.ensures.value) (omega arith)
+    rw (c.as_slice-3.ensures.value, c.in_ok-positions.ensures.value, c.as_slice-channels.ensures.value)
+        (omega arith)

@@ -10,4 +10,5 @@ use Rattle.comtrade_cfg.proofs.print.print_cfg.Goals as goal
 pub returns-in-Ok-clause-reads_back : goal.returns-in-Ok-clause-reads_back
 returns-in-Ok-clause-reads_back c =
     let is : c.new.result ≡ canonical_text (view c.args.cfg.now) = c.new.ensures ∙ c.in-Ok.ensures in
-    subst (λ (text : Text). length text ≤ 1_048_576 → IsCfgOf text (view c.args.cfg.now)) (sym is) (reads_back (view c.args.cfg.now) c.requires)
+    subst (λ (text : Text). length text ≤ 1_048_576 → IsCfgOf text (view c.args.cfg.now)) (sym is)
+        (reads_back (view c.args.cfg.now) c.requires)

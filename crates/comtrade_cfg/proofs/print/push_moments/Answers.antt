@@ -16,6 +16,8 @@ returns c =
     let minutes : c.offset-minutes.result ≡ offset_of cfg.zone = c.offset-minutes.ensures in
     let first = ended (stamp_text (written_of cfg.first (offset_of cfg.zone))) in
     let trigger = ended (stamp_text (written_of cfg.trigger (offset_of cfg.zone))) in
-    let a : c.push_stamp_line.new.text.items ≡ c.args.text.now.items ++ first = simp (minutes, to_z-of_z) at c.in_ok-push_stamp_line.ensures in
-    let b : c.push_stamp_line-2.new.text.items ≡ c.push_stamp_line.new.text.items ++ trigger = simp (minutes, to_z-of_z) at c.in_ok-push_stamp_line-2.ensures in
+    let a : c.push_stamp_line.new.text.items ≡ c.args.text.now.items ++ first =
+        simp (minutes, to_z-of_z) at c.in_ok-push_stamp_line.ensures in
+    let b : c.push_stamp_line-2.new.text.items ≡ c.push_stamp_line.new.text.items ++ trigger =
+        simp (minutes, to_z-of_z) at c.in_ok-push_stamp_line-2.ensures in
     b ∙ ap (λ z. z ++ trigger) a ∙ append_assoc c.args.text.now.items first trigger

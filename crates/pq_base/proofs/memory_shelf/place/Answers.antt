@@ -5,13 +5,16 @@ use Rattle.pq_base.proofs.memory_shelf.place.Goals as goal
 
 -- the first that has the name
 pub returns-then-eq-clause-found : goal.returns-then-eq-clause-found
-returns-then-eq-clause-found c = found_there c.args.files.now c.args.name.now c.loop-at.at (grind (arith, common_steps))
+returns-then-eq-clause-found c = found_there c.args.files.now c.args.name.now c.loop-at.at
+    (grind (arith, common_steps))
 
 pub returns-then-eq-clause-content : goal.returns-then-eq-clause-content
-returns-then-eq-clause-content c = file_there c.args.files.now c.args.name.now c.loop-at.at (grind (arith, common_steps))
+returns-then-eq-clause-content c = file_there c.args.files.now c.args.name.now c.loop-at.at
+    (grind (arith, common_steps))
 
 pub returns-then-eq-clause-name : goal.returns-then-eq-clause-name
-returns-then-eq-clause-name c = name_there c.args.files.now c.args.name.now c.loop-at.at (grind (arith, common_steps))
+returns-then-eq-clause-name c = name_there c.args.files.now c.args.name.now c.loop-at.at
+    (grind (arith, common_steps))
 
 -- no file has the name
 pub returns-clause-found : goal.returns-clause-found

@@ -7,4 +7,5 @@ with_digits-requires c = omega (arith, power_le (length c.args.text.now) 38 (ome
 
 -- at most `most` digits
 pub returns-clause-within : goal.returns-clause-within
-returns-clause-within c = below_fewer c.with_digits.result (length c.args.text.now) c.args.most (omega arith) c.with_digits.ensures.within
+returns-clause-within c = below_fewer c.with_digits.result (length c.args.text.now) c.args.most (omega arith)
+    c.with_digits.ensures.within

@@ -19,4 +19,6 @@ returns-clause-value c =
 
 pub returns-clause-within : goal.returns-clause-within
 returns-clause-within c =
-    subst (λ z. unsigned_abs z ≤ 10 ^ 19) (sym (returns-clause-value c)) (sum_bound c.args.coefficients.now.a c.args.coefficients.now.b c.args.count c.requires.limit c.requires.within)
+    subst (λ z. unsigned_abs z ≤ 10 ^ 19) (sym (returns-clause-value c))
+        (sum_bound c.args.coefficients.now.a c.args.coefficients.now.b c.args.count c.requires.limit
+        c.requires.within)

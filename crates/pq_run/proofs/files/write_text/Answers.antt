@@ -10,7 +10,8 @@ returns-in-Err g c = λ files asked reads_before reads_after.
       explained = record {
         rose = failed.cause.failed;
         number = c.faults.ensures;
-        taken = (take failed.err.count c.args.text.now, drop failed.err.count c.args.text.now, sym (take-append-drop _ _), failed.err.bytes);
+        taken = (take failed.err.count c.args.text.now, drop failed.err.count c.args.text.now,
+            sym (take-append-drop _ _), failed.err.bytes);
       };
       complete = λ no_read no_write. absurd (no_write failed.cause.failed);
     }

@@ -10,7 +10,8 @@ returns-in-Ok g c =
     let files = g.K.Shelf.files in
     let faults = g.K.Shelf.faults in
     let course = cfg_course c.args.words.now.udin_mv c.args.words.now.dat.now in
-    let rest = top_call_later (course c.deref.result.now) (files c.args.shelf.now) (files c.read_file.new.shelf) _ (faults c.args.shelf.now) (faults c.read_file.new.shelf) _ _ _ _ _ _
+    let rest = top_call_later (course c.deref.result.now) (files c.args.shelf.now)
+        (files c.read_file.new.shelf) _ (faults c.args.shelf.now) (faults c.read_file.new.shelf) _ _ _ _ _ _
     c.in-Ok.ensures.files c.in-Ok.ensures.later c.intervals_of_cfg.ensures in
     let call : Call = record {
       files = files c.args.shelf.now;
@@ -22,8 +23,11 @@ returns-in-Ok g c =
       writes_before = g.O.Sink.faults c.args.out.now;
       writes_after = g.O.Sink.faults c.intervals_of_cfg.new.out;
     } in
-    top_call_of_file c.args.words.now.cfg.now _ _ 1048576 course c.in-Ok.cfg.items _ c.intervals_of_cfg.result c.in-Ok.ensures.read c.in-Ok.ensures.within
-    (subst (λ (bytes : List ℕ). IsTopCall (course bytes) call c.intervals_of_cfg.result) c.deref.ensures.value rest)
+    top_call_of_file c.args.words.now.cfg.now _ _ 1048576 course c.in-Ok.cfg.items _ c.intervals_of_cfg.result
+        c.in-Ok.ensures.read c.in-Ok.ensures.within
+    (subst (λ (bytes : List ℕ). IsTopCall (course bytes) call c.intervals_of_cfg.result) c.deref.ensures.value
+        rest)
 
 pub returns-in-Err : goal.returns-in-Err
-returns-in-Err g c = c.in-Err.ensures.refused (cfg_course c.args.words.now.udin_mv c.args.words.now.dat.now) (g.O.Sink.taken c.args.out.now) (g.O.Sink.faults c.args.out.now)
+returns-in-Err g c = c.in-Err.ensures.refused (cfg_course c.args.words.now.udin_mv c.args.words.now.dat.now)
+    (g.O.Sink.taken c.args.out.now) (g.O.Sink.faults c.args.out.now)

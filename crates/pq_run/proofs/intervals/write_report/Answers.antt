@@ -9,5 +9,8 @@ pub returns-in-Ok : goal.returns-in-Ok
 returns-in-Ok g c =
     let taken = g.O.Sink.taken in
     let faults = g.O.Sink.faults in
-    subst (λ (t : List ℕ). IsTopCallOnAnyShelf (Ends (Job t)) (taken c.args.out.now) (taken c.write_text.new.out) (faults c.args.out.now) (faults c.write_text.new.out) c.write_text.result)
-    (c.deref.ensures.value ∙ (c.in-Ok.ensures ∙ ap (report_text c.args.recording.now) c.usual_limits_of.ensures.value)) c.write_text.ensures
+    subst (λ (t : List ℕ). IsTopCallOnAnyShelf (Ends (Job t)) (taken c.args.out.now)
+        (taken c.write_text.new.out) (faults c.args.out.now) (faults c.write_text.new.out)
+        c.write_text.result)
+    (c.deref.ensures.value ∙ (c.in-Ok.ensures ∙ ap (report_text c.args.recording.now)
+        c.usual_limits_of.ensures.value)) c.write_text.ensures

@@ -25,8 +25,11 @@ returns-in_err-samples-clause-value c =
     let e = c.in_err-samples.field-0.0 in
     let judged = judged_dat 10 (0 ∷ []) dat n in
     let read = channel_samples c.coefficients.result 10 0 dat n in
-    let given : (e ≡ fault.OutOfMemory) ⊎ (unless_fault judged read ≡ Err e) = subst (λ r. GivesUnless fault.OutOfMemory (λ samples. samples.items) r (unless_fault judged read)) c.in_err-samples.was c.samples.ensures.value in
-    let told_fault = fault_of_any judged read (recording_with m.configuration (channel_samples (coefficients_at m.configuration 0) 10 0 dat n)) e given in
+    let given : (e ≡ fault.OutOfMemory) ⊎ (unless_fault judged read ≡ Err e) =
+        subst (λ r. GivesUnless fault.OutOfMemory (λ samples. samples.items) r (unless_fault judged read))
+        c.in_err-samples.was c.samples.ensures.value in
+    let told_fault = fault_of_any judged read (recording_with m.configuration
+        (channel_samples (coefficients_at m.configuration 0) 10 0 dat n)) e given in
     rw (samples_of_one m dat (one_channel m c.requires)) (search (rules, told_fault))
 
 -- what is handed over is a recording
@@ -39,11 +42,16 @@ new-requires c =
     let bounds = configuration_bounded m.configuration (one_channel m c.requires).said in
     let judged = judged_dat 10 (0 ∷ []) dat n in
     let given : unless_fault judged (channel_samples c.coefficients.result 10 0 dat n) ≡ Ok samples =
-    subst (λ r. GivesUnless fault.OutOfMemory (λ samples. samples.items) r (unless_fault judged (channel_samples c.coefficients.result 10 0 dat n))) c.in_ok-samples.was c.samples.ensures.value in
+    subst (λ r. GivesUnless fault.OutOfMemory (λ samples. samples.items) r
+        (unless_fault judged (channel_samples c.coefficients.result 10 0 dat n))) c.in_ok-samples.was
+        c.samples.ensures.value in
     let count = as_many judged c.coefficients.result dat n samples given in
-    let first : to_z w64 (of_z w64 m.configuration.first) ≡ m.configuration.first = omega (arith, ints, bounds.first) in
-    let all : map (λ s. s.items) c.in_ok-samples-2.samples.items ≡ samples ∷ [] = ap (map (λ s. s.items)) c.in_ok-samples-2.ensures.items in
-    rw (first, c.in_ok-numbers.ensures.items, all) (is_recording m.configuration samples bounds (omega (arith, count, bounds.endsamp)) c.in_ok-samples.ensures.quiet)
+    let first : to_z w64 (of_z w64 m.configuration.first) ≡ m.configuration.first =
+        omega (arith, ints, bounds.first) in
+    let all : map (λ s. s.items) c.in_ok-samples-2.samples.items ≡ samples ∷ [] =
+        ap (map (λ s. s.items)) c.in_ok-samples-2.ensures.items in
+    rw (first, c.in_ok-numbers.ensures.items, all) (is_recording m.configuration samples bounds
+        (omega (arith, count, bounds.endsamp)) c.in_ok-samples.ensures.quiet)
 
 -- and it is the one that the dat makes
 pub returns-clause-value : goal.returns-clause-value
@@ -56,11 +64,19 @@ returns-clause-value c =
     let bounds = configuration_bounded m.configuration one.said in
     let judged = judged_dat 10 (0 ∷ []) dat n in
     let given : unless_fault judged (channel_samples c.coefficients.result 10 0 dat n) ≡ Ok samples =
-    subst (λ r. GivesUnless fault.OutOfMemory (λ samples. samples.items) r (unless_fault judged (channel_samples c.coefficients.result 10 0 dat n))) c.in_ok-samples.was c.samples.ensures.value in
+    subst (λ r. GivesUnless fault.OutOfMemory (λ samples. samples.items) r
+        (unless_fault judged (channel_samples c.coefficients.result 10 0 dat n))) c.in_ok-samples.was
+        c.samples.ensures.value in
     let good = unless_ok judged (channel_samples c.coefficients.result 10 0 dat n) samples given in
-    let read : channel_samples (coefficients_at m.configuration 0) 10 0 dat n ≡ samples = ap (λ k. channel_samples k 10 0 dat n) (sym c.coefficients.ensures.value) ∙ good.1 in
-    let first : to_z w64 (of_z w64 m.configuration.first) ≡ m.configuration.first = omega (arith, ints, bounds.first) in
-    let all : map (λ s. s.items) c.in_ok-samples-2.samples.items ≡ samples ∷ [] = ap (map (λ s. s.items)) c.in_ok-samples-2.ensures.items in
-    let made : c.new.result ≡ recording_with m.configuration samples = c.new.ensures ∙ rw (first, c.in_ok-numbers.ensures.items, all) refl in
+    let read : channel_samples (coefficients_at m.configuration 0) 10 0 dat n ≡ samples =
+        ap (λ k. channel_samples k 10 0 dat n) (sym c.coefficients.ensures.value) ∙ good.1 in
+    let first : to_z w64 (of_z w64 m.configuration.first) ≡ m.configuration.first =
+        omega (arith, ints, bounds.first) in
+    let all : map (λ s. s.items) c.in_ok-samples-2.samples.items ≡ samples ∷ [] =
+        ap (map (λ s. s.items)) c.in_ok-samples-2.ensures.items in
+    let made : c.new.result ≡ recording_with m.configuration samples = c.new.ensures
+        ∙ rw (first, c.in_ok-numbers.ensures.items, all) refl in
     samples_of_one m dat one
-    ∙ (ap (λ r. unless_fault r (recording_with m.configuration (channel_samples (coefficients_at m.configuration 0) 10 0 dat n))) good.0 ∙ ap Ok (ap (recording_with m.configuration) read ∙ sym made))
+    ∙ (ap (λ r. unless_fault r (recording_with m.configuration
+        (channel_samples (coefficients_at m.configuration 0) 10 0 dat n))) good.0
+        ∙ ap Ok (ap (recording_with m.configuration) read ∙ sym made))

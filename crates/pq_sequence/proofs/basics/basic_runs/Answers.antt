@@ -9,5 +9,6 @@ pub returns-in-Ok-clause-within : goal.returns-in-Ok-clause-within
 returns-in-Ok-clause-within c =
     let n = length c.args.boundaries.now in
     let some = some_cycles c.args.lf c.cycles_of_line.result c.cycles_of_line.ensures in
-    let all = c.in-Ok.ensures ∙ ap (runs c.args.fronts.now c.cycles_of_line.result) c.saturating_sub-count.ensures in
+    let all = c.in-Ok.ensures ∙ ap (runs c.args.fronts.now c.cycles_of_line.result)
+        c.saturating_sub-count.ensures in
     subst (λ xs. All (IsRun n) xs) (sym all) (runs_lie c.args.fronts.now c.cycles_of_line.result n some)

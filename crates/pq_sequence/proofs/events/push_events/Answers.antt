@@ -10,7 +10,8 @@ pub loop-window-init : goal.loop-window-init
 loop-window-init c = record {
   kind = c.new-detector.ensures.kind;
   seen = c.new-detector.ensures.value;
-  found = sym (append-nil c.args.found.now.items) ∙ ap (λ xs. c.args.found.now.items ++ xs) (sym (none_ended c.args.kind));
+  found = sym (append-nil c.args.found.now.items) ∙ ap (λ xs. c.args.found.now.items ++ xs)
+      (sym (none_ended c.args.kind));
 }
 
 -- one window more
@@ -25,7 +26,10 @@ loop-window-preserved c =
     let seen = c.loop-window.invariant.seen in
     record {
       kind = c.step.ensures.same ∙ c.loop-window.invariant.kind;
-      seen = subst (λ cs. HasSeen c.step.new.detector cs) (sym (one_more kind limits windows i none c.loop-window-test.true)) (c.step.ensures.seen fed seen);
-      found = ended_more kind c.loop-window.detector.kind limits windows i none c.step.result c.args.found.now.items c.loop-window.found.items c.push_some.new.list.items
-          c.loop-window-test.true c.loop-window.invariant.kind (c.step.ensures.value fed seen) c.loop-window.invariant.found c.in_ok-push_some.ensures;
+      seen = subst (λ cs. HasSeen c.step.new.detector cs)
+          (sym (one_more kind limits windows i none c.loop-window-test.true)) (c.step.ensures.seen fed seen);
+      found = ended_more kind c.loop-window.detector.kind limits windows i none c.step.result
+          c.args.found.now.items c.loop-window.found.items c.push_some.new.list.items
+          c.loop-window-test.true c.loop-window.invariant.kind (c.step.ensures.value fed seen)
+              c.loop-window.invariant.found c.in_ok-push_some.ensures;
     }

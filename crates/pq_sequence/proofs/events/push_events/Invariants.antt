@@ -9,5 +9,6 @@ abbrev pub invariant-loop-window : goal.invariant-loop-window
 invariant-loop-window l = record {
   kind : l.detector.kind ≡ l.kind;
   seen : HasSeen l.detector (conditions l.kind l.limits (take l.window-index l.windows));
-  found : l.found.items ≡ l.fn.found.items ++ ended_events l.kind (conditions l.kind l.limits (take l.window-index l.windows));
+  found : l.found.items ≡ l.fn.found.items ++ ended_events l.kind
+      (conditions l.kind l.limits (take l.window-index l.windows));
 }

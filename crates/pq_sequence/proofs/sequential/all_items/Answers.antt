@@ -14,8 +14,10 @@ use Rattle.pq_sequence.proofs.sequential.all_items.Goals as goal
 pub push_event_items-requires : goal.push_event_items-requires
 push_event_items-requires c =
     let r = c.args.recording.now in
-    let is : c.deref-5.result.now ≡ recorded_events r c.args.limits.now = c.deref-5.ensures.value ∙ c.in_ok-events.ensures in
-    subst (λ (events : List Event). All (λ event. event.channel < length r.numbers) events) (sym is) (channels_there r c.args.limits.now c.recorded_runs.ensures.conditions)
+    let is : c.deref-5.result.now ≡ recorded_events r c.args.limits.now = c.deref-5.ensures.value
+        ∙ c.in_ok-events.ensures in
+    subst (λ (events : List Event). All (λ event. event.channel < length r.numbers) events) (sym is)
+        (channels_there r c.args.limits.now c.recorded_runs.ensures.conditions)
 
 -- the basic intervals, and then the events
 pub returns-clause-value : goal.returns-clause-value
@@ -23,20 +25,28 @@ unfolding items_under
 returns-clause-value c =
     let r = c.args.recording.now in
     let limits = c.args.limits.now in
-    let items : List ℕ → List Span → List Event → List Item = λ boundaries runs events. map (basic_item r events 0) (map (basic_span boundaries) runs) in
-    let boundaries : c.deref-2.result.now ≡ reference_cycles r = c.deref-2.ensures.value ∙ c.in_ok-boundaries.ensures.value in
-    let runs : c.deref-3.result.now ≡ basic_runs (cycles_of r.lf) (reference_cycles r) (tick_places (clock_of r) (sample_count r)) =
+    let items : List ℕ → List Span → List Event → List Item =
+        λ boundaries runs events. map (basic_item r events 0) (map (basic_span boundaries) runs) in
+    let boundaries : c.deref-2.result.now ≡ reference_cycles r = c.deref-2.ensures.value
+        ∙ c.in_ok-boundaries.ensures.value in
+    let runs : c.deref-3.result.now ≡ basic_runs (cycles_of r.lf) (reference_cycles r)
+        (tick_places (clock_of r) (sample_count r)) =
     c.deref-3.ensures.value ∙ c.in_ok-runs.ensures.value
-    ∙ ap (λ boundaries. basic_runs (cycles_of r.lf) boundaries (tick_places (clock_of r) (sample_count r))) (c.deref.ensures.value ∙ c.in_ok-boundaries.ensures.value) in
+    ∙ ap (λ boundaries. basic_runs (cycles_of r.lf) boundaries (tick_places (clock_of r) (sample_count r)))
+        (c.deref.ensures.value ∙ c.in_ok-boundaries.ensures.value) in
     c.in_ok-push_event_items.ensures
-    ∙ ap (λ (events : List Event). c.push_basics.new.items.items ++ map (event_item r) events) (c.deref-5.ensures.value ∙ c.in_ok-events.ensures)
+    ∙ ap (λ (events : List Event). c.push_basics.new.items.items ++ map (event_item r) events)
+        (c.deref-5.ensures.value ∙ c.in_ok-events.ensures)
     ∙ ap (λ items. items ++ map (event_item r) (recorded_events r limits))
     (c.in_ok-push_basics.ensures
-    ∙ ap (λ before. before ++ items c.deref-2.result.now c.deref-3.result.now c.deref-4.result.now) c.in_ok-items.ensures.items
+    ∙ ap (λ before. before ++ items c.deref-2.result.now c.deref-3.result.now c.deref-4.result.now)
+        c.in_ok-items.ensures.items
     ∙ ap (λ boundaries. items boundaries c.deref-3.result.now c.deref-4.result.now) boundaries
     ∙ ap (λ runs. items (reference_cycles r) runs c.deref-4.result.now) runs
-    ∙ ap (items (reference_cycles r) (basic_runs (cycles_of r.lf) (reference_cycles r) (tick_places (clock_of r) (sample_count r)))) (c.deref-4.ensures.value ∙ c.in_ok-events.ensures))
+    ∙ ap (items (reference_cycles r) (basic_runs (cycles_of r.lf) (reference_cycles r)
+        (tick_places (clock_of r) (sample_count r)))) (c.deref-4.ensures.value ∙ c.in_ok-events.ensures))
 
 -- all in range
 pub returns-clause-within : goal.returns-clause-within
-returns-clause-within c = subst (λ items. All IsItemInRange items) (sym (returns-clause-value c)) (items_in_range c.args.recording.now c.args.limits.now c.recorded_runs.ensures.conditions)
+returns-clause-within c = subst (λ items. All IsItemInRange items) (sym (returns-clause-value c))
+    (items_in_range c.args.recording.now c.args.limits.now c.recorded_runs.ensures.conditions)

@@ -16,7 +16,9 @@ returns-clause-value c =
     c.deref.ensures.value ∙ c.in_ok-fronts.ensures.value
     ∙ ap (λ clock. fronts boundaries (tick_places clock c.len.result)) c.clock_of.ensures.value
     ∙ ap (λ n. fronts boundaries (tick_places (clock_of r) n)) c.len.ensures.value in
-    let all : runs c.deref.result.now (cycles_of c.lf.result) count ≡ basic_runs (cycles_of r.lf) boundaries (tick_places (clock_of r) (sample_count r)) =
+    let all : runs c.deref.result.now (cycles_of c.lf.result) count
+        ≡ basic_runs (cycles_of r.lf) boundaries (tick_places (clock_of r) (sample_count r)) =
     ap (λ starts. runs starts (cycles_of c.lf.result) count) starts
-    ∙ ap (λ lf. runs (fronts boundaries (tick_places (clock_of r) (sample_count r))) (cycles_of lf) count) c.lf.ensures.value in
+    ∙ ap (λ lf. runs (fronts boundaries (tick_places (clock_of r) (sample_count r))) (cycles_of lf) count)
+        c.lf.ensures.value in
     subst (λ spans. IfOk c.basic_runs.result (λ found. found.items ≡ spans)) all c.basic_runs.ensures.value

@@ -11,11 +11,14 @@ use Rattle.pq_sequence.proofs.sequential.sequence.Goals as goal
 pub returns-in-Ok-clause-value : goal.returns-in-Ok-clause-value
 unfolding sequential
 returns-in-Ok-clause-value c =
-    let whole : take c.in-Ok.items.len (c.sort_items.new.items ++ drop (length c.sort_items.new.items) c.in-Ok.items.items) ≡ c.sort_items.new.items = grind (arith, common_steps) in
+    let whole : take c.in-Ok.items.len (c.sort_items.new.items
+        ++ drop (length c.sort_items.new.items) c.in-Ok.items.items) ≡ c.sort_items.new.items =
+        grind (arith, common_steps) in
     whole ∙ c.sort_items.ensures ∙ ap (in_order item_cmp) (c.deref_mut.ensures.value ∙ c.in-Ok.ensures.value)
 
 -- the same items, so all in range
 pub returns-in-Ok-clause-within : goal.returns-in-Ok-clause-within
 returns-in-Ok-clause-within c =
     subst (λ items. All IsItemInRange items) (sym (returns-in-Ok-clause-value c))
-    (result_in_range c.args.recording.now c.args.limits.now (subst (λ items. All IsItemInRange items) c.in-Ok.ensures.value c.in-Ok.ensures.within))
+    (result_in_range c.args.recording.now c.args.limits.now
+        (subst (λ items. All IsItemInRange items) c.in-Ok.ensures.value c.in-Ok.ensures.within))

@@ -9,7 +9,8 @@ use Rattle.pq_time.proofs.printed.date_on.Goals as goal
 use Rattle.pq_time.proofs.printed.date_on.Goals.{After-unwrap}
 
 -- the day number of what was made is that of the moment
-shown : (c : After-unwrap) → (c.unwrap.result.year ≡ pos (date_shown c.args.t).year) × (c.unwrap.result.month ≡ (date_shown c.args.t).month) × (c.unwrap.result.day ≡ (date_shown c.args.t).day)
+shown : (c : After-unwrap) → (c.unwrap.result.year ≡ pos (date_shown c.args.t).year) ×
+    (c.unwrap.result.month ≡ (date_shown c.args.t).month) × (c.unwrap.result.day ≡ (date_shown c.args.t).day)
 unfolding date_shown
 shown c =
     let t = c.args.t in
@@ -17,7 +18,8 @@ shown c =
     let within : IsWithin (2 ^ 63) t = omega (arith, ints) in
     let parts = since_parts t within in
     let n : ℕ = since_1600 t / 86_400_000_000_000 in
-    let quotient : c.div_euclid.result ≡ int_div_euclid t (pos 86_400_000_000_000) = simp to_z-of_z at c.div_euclid.ensures in
+    let quotient : c.div_euclid.result ≡ int_div_euclid t (pos 86_400_000_000_000) =
+        simp to_z-of_z at c.div_euclid.ensures in
     let day = rw c.unwrap.ensures at c.from_unix_epoch_day.ensures.value in
     shows_day c.unwrap.result n parts.2 (omega (arith, ints, day, quotient, parts.0))
 

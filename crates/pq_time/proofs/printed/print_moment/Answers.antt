@@ -15,10 +15,12 @@ returns c =
     let year : c.date_on.result.year ≡ pos d.year = simp to_z-of_z at c.date_on.ensures.year in
     let month : c.date_on.result.month ≡ d.month = simp to_z-of_z at c.date_on.ensures.month in
     let day : c.date_on.result.day ≡ d.day = simp to_z-of_z at c.date_on.ensures.day in
-    let n : c.within_day.result ≡ since_1600 t % 86_400_000_000_000 = simp to_z-of_z at c.within_day.ensures in
+    let n : c.within_day.result ≡ since_1600 t % 86_400_000_000_000 =
+        simp to_z-of_z at c.within_day.ensures in
     let date : c.date_text.result ≡ padded 4 d.year ++ 45 ∷ padded 2 d.month ++ 45 ∷ padded 2 d.day =
     c.date_text.ensures
-    ∙ ap (λ y. padded 4 (unsigned_abs y) ++ 45 ∷ padded 2 c.date_on.result.month ++ 45 ∷ padded 2 c.date_on.result.day) year
+    ∙ ap (λ y. padded 4 (unsigned_abs y) ++ 45 ∷ padded 2 c.date_on.result.month
+        ++ 45 ∷ padded 2 c.date_on.result.day) year
     ∙ ap (λ m. padded 4 d.year ++ 45 ∷ padded 2 m ++ 45 ∷ padded 2 c.date_on.result.day) month
     ∙ ap (λ n. padded 4 d.year ++ 45 ∷ padded 2 d.month ++ 45 ∷ padded 2 n) day in
     let time : c.time_text.result ≡ hms_text (time_shown t) ++ 46 ∷ padded 9 (time_shown t).nanosecond =

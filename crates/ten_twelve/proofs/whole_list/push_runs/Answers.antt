@@ -11,4 +11,5 @@ pub loop-k-preserved : goal.loop-k-preserved
 loop-k-preserved c =
     let ok = c.is_err.ensures.negation ∙ ap not c.if-is_err.false in
     let start = c.args.from + c.loop-k.k * c.args.length in
-    (rw ok at c.push.ensures.items) ∙ one_run c.args.spans.now.items c.loop-k.spans.items c.args.length c.args.from c.loop-k.k start (start + c.args.length) c.loop-k.invariant refl refl
+    (rw ok at c.push.ensures.items) ∙ one_run c.args.spans.now.items c.loop-k.spans.items c.args.length
+        c.args.from c.loop-k.k start (start + c.args.length) c.loop-k.invariant refl refl

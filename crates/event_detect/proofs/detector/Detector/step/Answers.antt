@@ -10,26 +10,30 @@ pub returns-then-begins-clause-value : goal.returns-then-begins-clause-value
 returns-then-begins-clause-value c =
     let kind = c.self.inside.kind in
     let fed = condition c.args.begins c.args.ends c.args.channel c.args.window in
-    idle_ends c.args.self.now kind fed (parts kind c.self.inside.running None c.args.self.now c.in_default.is c.self.view_is)
+    idle_ends c.args.self.now kind fed (parts kind c.self.inside.running None c.args.self.now c.in_default.is
+        c.self.view_is)
 
 pub returns-then-begins-clause-seen : goal.returns-then-begins-clause-seen
 returns-then-begins-clause-seen c =
     let kind = c.self.inside.kind in
     let fed = condition c.args.begins c.args.ends c.args.channel c.args.window in
-    idle_begins c.args.self.now kind fed (parts kind c.self.inside.running None c.args.self.now c.in_default.is c.self.view_is) c.if-begins.true
+    idle_begins c.args.self.now kind fed (parts kind c.self.inside.running None c.args.self.now
+        c.in_default.is c.self.view_is) c.if-begins.true
 
 -- none runs, and none begins
 pub returns-else-begins-clause-value : goal.returns-else-begins-clause-value
 returns-else-begins-clause-value c =
     let kind = c.self.inside.kind in
     let fed = condition c.args.begins c.args.ends c.args.channel c.args.window in
-    idle_ends c.args.self.now kind fed (parts kind c.self.inside.running None c.args.self.now c.in_default.is c.self.view_is)
+    idle_ends c.args.self.now kind fed (parts kind c.self.inside.running None c.args.self.now c.in_default.is
+        c.self.view_is)
 
 pub returns-else-begins-clause-seen : goal.returns-else-begins-clause-seen
 returns-else-begins-clause-seen c =
     let kind = c.self.inside.kind in
     let fed = condition c.args.begins c.args.ends c.args.channel c.args.window in
-    idle_stays c.args.self.now kind fed (parts kind c.self.inside.running None c.args.self.now c.in_default.is c.self.view_is) c.if-begins.false
+    idle_stays c.args.self.now kind fed (parts kind c.self.inside.running None c.args.self.now c.in_default.is
+        c.self.view_is) c.if-begins.false
 
 -- one runs, and ends
 pub returns-then-ends-clause-value : goal.returns-then-ends-clause-value
@@ -39,7 +43,8 @@ returns-then-ends-clause-value c =
     let next = shown c.with-running.result in
     let fed = condition c.args.begins c.args.ends c.args.channel c.args.window in
     let more : with_seen kind (shown kept) c.args.channel c.args.window.value ≡ next =
-    with_parts kind (shown kept) next c.args.channel c.args.window.value c.with-running.ensures.start c.with-running.ensures.channel c.with-running.ensures.value in
+    with_parts kind (shown kept) next c.args.channel c.args.window.value c.with-running.ensures.start
+        c.with-running.ensures.channel c.with-running.ensures.value in
     running_ends c.args.self.now kind (shown kept) next fed c.event.result
     (parts kind c.self.inside.running (Some kept) c.args.self.now c.in-Some.is c.self.view_is)
     c.if-ends.true more c.event.ensures
@@ -49,7 +54,9 @@ returns-then-ends-clause-seen c =
     let kind = c.self.inside.kind in
     let kept = c.in-Some.running in
     let fed = condition c.args.begins c.args.ends c.args.channel c.args.window in
-    running_stops c.args.self.now kind (shown kept) fed (parts kind c.self.inside.running (Some kept) c.args.self.now c.in-Some.is c.self.view_is) c.if-ends.true
+    running_stops c.args.self.now kind (shown kept) fed
+        (parts kind c.self.inside.running (Some kept) c.args.self.now c.in-Some.is c.self.view_is)
+        c.if-ends.true
 
 -- one runs, and goes on
 pub returns-clause-value : goal.returns-clause-value
@@ -57,7 +64,9 @@ returns-clause-value c =
     let kind = c.self.inside.kind in
     let kept = c.in-Some.running in
     let fed = condition c.args.begins c.args.ends c.args.channel c.args.window in
-    running_stays c.args.self.now kind (shown kept) fed (parts kind c.self.inside.running (Some kept) c.args.self.now c.in-Some.is c.self.view_is) c.if-ends.false
+    running_stays c.args.self.now kind (shown kept) fed
+        (parts kind c.self.inside.running (Some kept) c.args.self.now c.in-Some.is c.self.view_is)
+        c.if-ends.false
 
 pub returns-clause-seen : goal.returns-clause-seen
 returns-clause-seen c =
@@ -66,7 +75,8 @@ returns-clause-seen c =
     let next = shown c.with-running.result in
     let fed = condition c.args.begins c.args.ends c.args.channel c.args.window in
     let more : with_seen kind (shown kept) c.args.channel c.args.window.value ≡ next =
-    with_parts kind (shown kept) next c.args.channel c.args.window.value c.with-running.ensures.start c.with-running.ensures.channel c.with-running.ensures.value in
+    with_parts kind (shown kept) next c.args.channel c.args.window.value c.with-running.ensures.start
+        c.with-running.ensures.channel c.with-running.ensures.value in
     running_goes_on c.args.self.now kind (shown kept) next fed
     (parts kind c.self.inside.running (Some kept) c.args.self.now c.in-Some.is c.self.view_is)
     c.if-ends.false more

@@ -12,4 +12,5 @@ pub returns-clause-value : goal.returns-clause-value
 returns-clause-value c = value_is c
 
 pub returns-clause-within : goal.returns-clause-within
-returns-clause-within c = subst IsInOrder (sym (value_is c)) (limits_in_order c.args.settings.now c.requires (c.if-not-are_sound.ensures.0 refl))
+returns-clause-within c = subst IsInOrder (sym (value_is c))
+    (limits_in_order c.args.settings.now c.requires (c.if-not-are_sound.ensures.0 refl))
