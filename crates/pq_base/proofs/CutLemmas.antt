@@ -36,7 +36,7 @@ module _ (p : ℕ → Bool) where
       let at : position_or_len p xs ≡ i = cc in
       let below : position_or_len p xs < length xs = grind (arith, nat_tests) in
       subst (λ n. slice_split p xs ≡ take n xs ∷ slice_split p (drop (n + 1) xs)) at
-          (slice_split_first p xs 0 below)
+      (slice_split_first p xs 0 below)
   first_step xs i false inside is = let no : ⊥ = cc in absurd no
 
   -- the first part ends at the first byte that passes
@@ -47,14 +47,32 @@ module _ (p : ℕ → Bool) where
   parts_step : (x : ℕ) (xs : Text) (b : Bool) → (slice_split p xs ≡ xs ∷ []) ⊎ More (slice_split p xs)
       (list_any p xs)
       → (cond b ([] ∷ slice_split p xs) (onto_first x (slice_split p xs)) ≡ (x ∷ xs) ∷ []) ⊎ More
-          (cond b ([] ∷ slice_split p xs) (onto_first x (slice_split p xs))) (b || list_any p xs)
-  parts_step x xs true (inl one) = inr (record { first = []; second = xs; rest = []; is =
-      ap (λ parts. [] ∷ parts) one; some = refl })
-  parts_step x xs true (inr more) = inr (record { first = []; second = more.first; rest =
-      more.second ∷ more.rest; is = ap (λ parts. [] ∷ parts) more.is; some = refl })
+      (cond b ([] ∷ slice_split p xs) (onto_first x (slice_split p xs))) (b || list_any p xs)
+  parts_step x xs true (inl one) = inr (record {
+    first = [];
+    second = xs;
+    rest = [];
+    is =
+        ap (λ parts. [] ∷ parts) one;
+    some = refl;
+  })
+  parts_step x xs true (inr more) = inr (record {
+    first = [];
+    second = more.first;
+    rest =
+        more.second ∷ more.rest;
+    is = ap (λ parts. [] ∷ parts) more.is;
+    some = refl;
+  })
   parts_step x xs false (inl one) = inl (ap (onto_first x) one)
-  parts_step x xs false (inr more) = inr (record { first = x ∷ more.first; second = more.second; rest =
-      more.rest; is = ap (onto_first x) more.is; some = more.some })
+  parts_step x xs false (inr more) = inr (record {
+    first = x ∷ more.first;
+    second = more.second;
+    rest =
+        more.rest;
+    is = ap (onto_first x) more.is;
+    some = more.some;
+  })
 
   -- a text is one part, or has more and a byte that passes
   pub parts_of : (xs : Text) → (slice_split p xs ≡ xs ∷ []) ⊎ More (slice_split p xs) (list_any p xs)

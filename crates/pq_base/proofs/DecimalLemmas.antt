@@ -34,7 +34,7 @@ point_apart c = grind (arith, nat_tests)
 mark_after_sign : (c : ℕ) (text : Text) (minus plus : Bool) → (c == 45) ≡ minus → (c == 43) ≡ plus →
     (is_exponent_mark c || list_any is_exponent_mark text) ≡ true
     → (let s : Bool × Text = if minus then (true, text) else
-        (if plus then (false, text) else (false, c ∷ text)) in list_any is_exponent_mark s.1 ≡ true)
+    (if plus then (false, text) else (false, c ∷ text)) in list_any is_exponent_mark s.1 ≡ true)
 mark_after_sign c text true plus is also some = let none : is_exponent_mark c ≡ false =
     grind (arith, nat_tests) in ap (λ b. b || list_any is_exponent_mark text) (sym none) ∙ some
 mark_after_sign c text false true is also some = let none : is_exponent_mark c ≡ false =
@@ -49,25 +49,25 @@ mark_unsigned (c ∷ text) some = mark_after_sign c text (c == 45) (c == 43) ref
 no_exponent : (text : Text) → list_any is_exponent_mark text ≡ true → exponent_of text ≡ None
 no_exponent text some =
     ap (option_map (with_sign (signed_text text).0))
-        (digits_none 1 3 (signed_text text).1 (no_digits is_exponent_mark mark_apart (signed_text text).1
-        (mark_unsigned text some)))
+    (digits_none 1 3 (signed_text text).1 (no_digits is_exponent_mark mark_apart (signed_text text).1
+    (mark_unsigned text some)))
 
 exponent_parts : (negative : Bool) (mantissa rest : Text) →
     (slice_split is_exponent_mark rest ≡ rest ∷ []) ⊎ More (slice_split is_exponent_mark rest)
     (list_any is_exponent_mark rest)
     → unsigned_decimal negative (mantissa ∷ slice_split is_exponent_mark rest)
-        ≡ option_and_then (mantissa_of negative (parted_at 46 mantissa)) (exponent_of rest)
+    ≡ option_and_then (mantissa_of negative (parted_at 46 mantissa)) (exponent_of rest)
 exponent_parts negative mantissa rest (inl one) = ap (λ parts. unsigned_decimal negative (mantissa ∷ parts))
     one
 exponent_parts negative mantissa rest (inr more) =
     ap (λ parts. unsigned_decimal negative (mantissa ∷ parts)) more.is
-        ∙ sym (ap (option_and_then (mantissa_of negative (parted_at 46 mantissa)))
-        (no_exponent rest more.some))
+    ∙ sym (ap (option_and_then (mantissa_of negative (parted_at 46 mantissa)))
+    (no_exponent rest more.some))
 
 -- what stands after the first exponent mark is the exponent
 pub with_exponent : (negative : Bool) (mantissa rest : Text)
     → unsigned_decimal negative (mantissa ∷ slice_split is_exponent_mark rest)
-        ≡ option_and_then (mantissa_of negative (parted_at 46 mantissa)) (exponent_of rest)
+    ≡ option_and_then (mantissa_of negative (parted_at 46 mantissa)) (exponent_of rest)
 with_exponent negative mantissa rest = exponent_parts negative mantissa rest (parts_of is_exponent_mark rest)
 
 not_both : (b : Bool) → (b && false) ≡ false
@@ -79,20 +79,24 @@ no_fraction : (negative : Bool) (whole fraction : Text) (exponent : ℤ) → lis
 no_fraction negative whole fraction exponent some =
     let digits : list_all is_ascii_digit (whole ++ fraction) ≡ false
     = list_all-append is_ascii_digit whole fraction ∙
-        (ap (λ b. list_all is_ascii_digit whole && b) (no_digits (λ c. c == 46) point_apart fraction some)
-        ∙ not_both (list_all is_ascii_digit whole)) in
-    ap (option_map (λ n. record { negative = negative; digits = n; exponent =
-        exponent -ℤ pos (length fraction) })) (digits_none 1 32 (whole ++ fraction) digits)
+    (ap (λ b. list_all is_ascii_digit whole && b) (no_digits (λ c. c == 46) point_apart fraction some)
+    ∙ not_both (list_all is_ascii_digit whole)) in
+    ap (option_map (λ n. record {
+      negative = negative;
+      digits = n;
+      exponent =
+          exponent -ℤ pos (length fraction);
+    })) (digits_none 1 32 (whole ++ fraction) digits)
 
 fraction_parts : (negative : Bool) (whole fraction : Text) (exponent : ℤ) →
     (parted_at 46 fraction ≡ fraction ∷ []) ⊎ More (parted_at 46 fraction) (list_any (λ c. c == 46) fraction)
     → mantissa_of negative (whole ∷ parted_at 46 fraction) exponent
-        ≡ scaled_by negative whole fraction exponent
+    ≡ scaled_by negative whole fraction exponent
 fraction_parts negative whole fraction exponent (inl one) =
     ap (λ parts. mantissa_of negative (whole ∷ parts) exponent) one
 fraction_parts negative whole fraction exponent (inr more) =
     ap (λ parts. mantissa_of negative (whole ∷ parts) exponent) more.is
-        ∙ sym (no_fraction negative whole fraction exponent more.some)
+    ∙ sym (no_fraction negative whole fraction exponent more.some)
 
 -- what stands after the first point is the fraction
 pub with_fraction : (negative : Bool) (whole fraction : Text) (exponent : ℤ) →

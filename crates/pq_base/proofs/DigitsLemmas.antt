@@ -30,8 +30,12 @@ room_of_fewer most i j few = mul-le most (10 ^ i) most (10 ^ j) (omega arith) (p
 -- the room of two numbers of digits, one after the other
 pub room_of_both : (front i j : ℕ) → front < 1 * 10 ^ i → i + j ≤ 38 → (front + 1) * 10 ^ j ≤ 10 ^ 38
 room_of_both front i j below few =
-    omega (arith, mul-le (front + 1) (10 ^ j) (10 ^ i) (10 ^ j) (omega (arith, below)) (omega arith),
-        pow-add 10 i j, power_le (i + j) 38 (omega (arith, few)))
+    omega (
+      arith,
+      mul-le (front + 1) (10 ^ j) (10 ^ i) (10 ^ j) (omega (arith, below)) (omega arith),
+      pow-add 10 i j,
+      power_le (i + j) 38 (omega (arith, few)),
+    )
 
 -- ---- digits
 
@@ -60,14 +64,14 @@ pub digits_none : (least most : ℕ) (text : Text) → list_all is_ascii_digit t
     digits_between least most text ≡ None
 digits_none least most text fails =
     ap (λ d. if nat_le least (length text) && (nat_le (length text) most && d) then Some
-        (digits_value 10 text) else None) fails
+    (digits_value 10 text) else None) fails
     ∙ none_by_length (nat_le least (length text)) (nat_le (length text) most) (digits_value 10 text)
 
 -- the digits of two texts, read one after the other
 both_read : (whole fraction : Text) (front : ℕ) (a b : Bool) → Some front
     ≡ (if a then Some (digits_value 10 whole) else None)
     → (if b then Some (digits_value_after 10 front fraction) else None)
-        ≡ (if a && b then Some (digits_value 10 (whole ++ fraction)) else None)
+    ≡ (if a && b then Some (digits_value 10 (whole ++ fraction)) else None)
 both_read whole fraction front true true is = let same : front ≡ digits_value 10 whole = cc in
     ap Some (ap (λ n. digits_value_after 10 n fraction) same ∙ sym (digits_joined 0 whole fraction))
 both_read whole fraction front true false is = refl
@@ -81,15 +85,15 @@ pub digits_of_both : (whole fraction : Text) (front : ℕ) → 1 ≤ length whol
     length whole + length fraction ≤ 32
     → Some front ≡ (if list_all is_ascii_digit whole then Some (digits_value 10 whole) else None)
     → (if list_all is_ascii_digit fraction then Some (digits_value_after 10 front fraction) else None)
-        ≡ digits_between 1 32 (whole ++ fraction)
+    ≡ digits_between 1 32 (whole ++ fraction)
 digits_of_both whole fraction front some few is =
     let both = whole ++ fraction in
     let size : length both ≡ length whole + length fraction = length-append whole fraction in
     both_read whole fraction front (list_all is_ascii_digit whole) (list_all is_ascii_digit fraction) is
     ∙ ap (λ d. if d then Some (digits_value 10 both) else None)
-        (sym (list_all-append is_ascii_digit whole fraction))
+    (sym (list_all-append is_ascii_digit whole fraction))
     ∙ sym (within_length (length both) (list_all is_ascii_digit both) (digits_value 10 both) (omega arith)
-        (omega arith))
+    (omega arith))
 
 -- a number of so many digits is one of as many or more
 pub below_fewer : (r : Option ℕ) (i most : ℕ) → i ≤ most → IfSome r (λ n. n < 1 * 10 ^ i) →

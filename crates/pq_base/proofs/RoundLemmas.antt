@@ -22,8 +22,11 @@ small_digits n power fits more = omega (arith, power_le 39 power (omega arith))
 
 pub large_product : (digits power : ℕ) → 0 < digits → 38 < power → digits * 10 ^ power < 2 ^ 128 → ⊥
 large_product digits power some more fits =
-    omega (arith, mul-le 1 (10 ^ power) digits (10 ^ power) (omega arith) (omega arith),
-        power_le 39 power (omega arith))
+    omega (
+      arith,
+      mul-le 1 (10 ^ power) digits (10 ^ power) (omega arith) (omega arith),
+      power_le 39 power (omega arith),
+    )
 
 pub fits_128 : (power : ℕ) → power ≤ 38 → 10 ^ power < 2 ^ 128
 fits_128 power few = omega (arith, power_le power 38 few)

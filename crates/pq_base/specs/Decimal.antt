@@ -1,6 +1,9 @@
 -- Decimals, the real numbers of cfg fields, and their rounding to whole units (profile).
-use Rattle.std.specs.Prelude.{ℕ, ◌+◌, ◌*◌, ◌/◌, ◌^◌, Bool, true, false, ◌||◌, ◌==◌, nat_le, if◌then◌else◌, List, [], ◌∷◌, ◌++◌, length, ℤ, pos, negsuc, neg_ℤ, ◌+ℤ◌, ◌-ℤ◌, Option, Some, None, option_map, option_and_then}
-use Rattle.std.specs.List.{slice_split}
+use Rattle.std.specs.Prelude.{◌≡◌, ℕ, ◌+◌, ◌*◌, ◌/◌, ◌^◌, Bool, true, false, ◌||◌, ◌==◌, nat_le, if◌then◌else◌, List, [], ◌∷◌, ◌++◌, length, ℤ, pos, negsuc, neg_ℤ, ◌+ℤ◌, ◌-ℤ◌, Option, Some, None, option_map, option_and_then}
+use Rattle.std.specs.Char.{is_ascii_digit}
+use Rattle.std.specs.List.{list_all, slice_split}
+use Rattle.std.specs.Option.{option_map_or}
+use Rattle.std.specs.Str.Parse.{digits_value_after}
 use Rattle.pq_words.specs.Text.{Text, parted_at, digits_between}
 use Rattle.pq_base.specs.declared.decimal.Scaled.{Scaled}
 
@@ -15,6 +18,16 @@ abbrev pub with_sign : Bool → ℕ → ℤ
 with_sign true n = neg_ℤ (pos n)
 with_sign false n = pos n
 
+-- a text cut at the first byte that passes, if one does: its parts are the front and those of the rest
+abbrev pub IsCut : (ℕ → Bool) → Text → Text → Option Text → Type 0
+IsCut test text front rest =
+    slice_split test text ≡ front ∷ option_map_or (slice_split test) rest []
+
+-- the number that the digits of `front` and then those of the text write; None where a byte is no digit
+abbrev pub digits_from : ℕ → Text → Option ℕ
+digits_from front text =
+    if list_all is_ascii_digit text then Some (digits_value_after 10 front text) else None
+
 -- `e` or `E`
 abbrev pub is_exponent_mark : ℕ → Bool
 is_exponent_mark c = (c == 101) || (c == 69)
@@ -27,7 +40,7 @@ exponent_of text = let s = signed_text text in option_map (with_sign s.0) (digit
 abbrev pub scaled_by : Bool → Text → Text → ℤ → Option Scaled
 scaled_by negative whole fraction exponent =
     option_map (λ n. record { negative = negative; digits = n; exponent = exponent -ℤ pos (length fraction) })
-        (digits_between 1 32 (whole ++ fraction))
+    (digits_between 1 32 (whole ++ fraction))
 
 -- the digits of a mantissa that is parted at its point, if it has one
 abbrev pub mantissa_of : Bool → List Text → ℤ → Option Scaled

@@ -3,6 +3,7 @@ pub mod Decimal
 pub mod MemoryShelf
 pub mod MemorySink
 pub mod Outside
-pub mod Place
+pub mod FileIndex
+pub mod ReadAll
 pub mod Recorded
 pub mod Sample

@@ -1,12 +1,13 @@
 // Decimals: numbers with a point and an exponent, as fields of a cfg write them.
 ghost use Rattle.std.specs.Prelude.{◌≡◌, ◌+◌, ◌*◌, ◌^◌, ◌<◌, ◌≤◌, ◌==◌, [], ◌∷◌, ◌++◌, length, IfSome, OnSome, SomeIff};
 ghost use Rattle.std.specs.List.{position, slice_split};
-ghost use Rattle.std.specs.Option.{option_map_or};
-ghost use Rattle.pq_base.specs.Decimal.{decimal_of, exponent_of, is_exponent_mark, mantissa_of, rounded_quotient, scaled_by, shifted_within, signed_text, with_sign};
+ghost use Rattle.std.specs.Option.{option_copied};
+ghost use Rattle.pq_base.specs.Decimal.{IsCut, decimal_of, exponent_of, is_exponent_mark, mantissa_of, rounded_quotient, scaled_by, shifted_within, signed_text, with_sign};
 ghost use Rattle.pq_words.specs.Magnitude.{IsWithin};
 ghost use Rattle.pq_words.specs.Text.{digits_between, parted_at};
 
 use crate::number::{digits, with_digits};
+use crate::rounding::rounded_quotient;
 
 // Digits of a decimal, before and after its point together.
 const MOST_DIGITS: usize = 32;
@@ -79,13 +80,13 @@ fn cut_sign(text: &[u8]) -> (bool, &[u8])
     }
 }
 
-fn exponent_place(text: &[u8]) -> Option<usize>
+fn exponent_index(text: &[u8]) -> Option<usize>
     ensures { result ≡ position is_exponent_mark text.now }
 {
     text.iter().position(|byte| *byte == b'e' || *byte == b'E')
 }
 
-fn point_place(text: &[u8]) -> Option<usize>
+fn point_index(text: &[u8]) -> Option<usize>
     ensures { result ≡ position (λ c. c == 46) text.now }
 {
     text.iter().position(|byte| *byte == b'.')
@@ -93,10 +94,9 @@ fn point_place(text: &[u8]) -> Option<usize>
 
 // What stands before the first exponent mark, and what stands after it if there is one.
 fn cut_exponent(text: &[u8]) -> (&[u8], Option<&[u8]>)
-    ensures { slice_split is_exponent_mark text.now
-        ≡ result.0.now ∷ option_map_or (λ rest. slice_split is_exponent_mark rest.now) result.1 [] }
+    ensures { IsCut is_exponent_mark text.now result.0.now (option_copied result.1) }
 {
-    match exponent_place(text) {
+    match exponent_index(text) {
         Some(at) => (&text[..at], Some(&text[at + 1..])),
         None => (text, None),
     }
@@ -104,9 +104,9 @@ fn cut_exponent(text: &[u8]) -> (&[u8], Option<&[u8]>)
 
 // What stands before the first point, and what stands after it if there is one.
 fn cut_point(text: &[u8]) -> (&[u8], Option<&[u8]>)
-    ensures { parted_at 46 text.now ≡ result.0.now ∷ option_map_or (λ rest. parted_at 46 rest.now) result.1 [] }
+    ensures { IsCut (λ c. c == 46) text.now result.0.now (option_copied result.1) }
 {
-    match point_place(text) {
+    match point_index(text) {
         Some(at) => (&text[..at], Some(&text[at + 1..])),
         None => (text, None),
     }
@@ -183,10 +183,7 @@ fn divided(digits: u128, power: u64) -> u128
     if power > MOST_POWER {
         return 0;
     }
-    let unit = power_of_ten(power);
-    let whole = digits / unit;
-    let rest = digits % unit;
-    if rest < unit - rest { whole } else { whole + 1 }
+    rounded_quotient(digits, power_of_ten(power))
 }
 
 fn power_of_ten(power: u64) -> u128

@@ -1,23 +1,26 @@
 // A shelf in memory, whose calls fail by a list.
-ghost use Rattle.std.specs.Prelude.{◌≡◌, ◌<◌, [], ◌↔◌, min, IfOk, OnErr, IsErr, IfSome, IsSome, Contains, map, take, length, Some, None, option_map, nat_lt, is_some, unwrap_or, is_ok, if◌then◌else◌};
+ghost use Rattle.std.specs.Prelude.{◌≡◌, ◌<◌, [], ◌∷◌, ◌↔◌, min, IfOk, OnErr, IsErr, IsSome, Contains, map, take, length, Some, true, is_err};
 ghost use Rattle.std.specs.Io.{ReadsAtMost};
 ghost use Rattle.std.specs.Io.KnownBytes.{ReadConsumes};
-ghost use Rattle.pq_base.specs.Causes.{HasCause, next_count};
-ghost use Rattle.pq_base.specs.MemoryShelf.{shelved};
-ghost use Rattle.pq_base.specs.Outside.{Opens, file_named};
-ghost use Rattle.pq_base.specs.Place.{content_at, name_at};
+ghost use Rattle.pq_base.specs.Causes.{HasCause, count_after, next_count};
+ghost use Rattle.pq_base.specs.FileIndex.{IsIndexOf, content_at};
+ghost use Rattle.pq_base.specs.MemoryShelf.{FailsToOpen, SameShelf, file_view, names_after, new_shelf, read_count};
+ghost use Rattle.pq_base.specs.Outside.{HasAsked, Opens, file_named};
 
+use crate::asked_indices::AskedIndices;
 use crate::{Failed, Shelf};
 use std::marker::Model;
 
-/// Files in memory, whose calls of `open` and `read` fail by a list.
+/// Files in memory, whose calls of `open` and `read` fail by a list. It tells the names that it was
+/// asked as long as there was a file of each, up to sixteen of them.
 #[derive(Drop)]
 pub struct MemShelf {
     files: Vec<(String, Vec<u8>)>,
     fails: Vec<u64>,
     piece: usize,
-    // The place of the file that was last asked, or the number of files.
-    at: usize,
+    asked: AskedIndices,
+    // The index of the file that is opened.
+    index: Option<usize>,
     // How much of it is no longer to be read.
     done: usize,
     calls: u64,
@@ -26,17 +29,17 @@ pub struct MemShelf {
 
 impl Model for MemShelf {
     ghost use Rattle.std.specs.Prelude.{map, drop, ◌<◌};
-    ghost use Rattle.pq_base.specs.MemoryShelf.{MemoryShelf, shelved};
-    ghost use Rattle.pq_base.specs.Place.{content_at, name_at};
+    ghost use Rattle.pq_base.specs.FileIndex.{content_at, names_at};
+    ghost use Rattle.pq_base.specs.MemoryShelf.{MemoryShelf, file_view};
 
     ghost Value = { MemoryShelf };
 
     ghost view = { λ a. record {
-      files = map shelved a.files.items;
+      files = map file_view a.files.items;
       fails = a.fails.items;
       piece = a.piece;
-      asked = name_at (map shelved a.files.items) a.at;
-      rest = drop a.done (content_at (map shelved a.files.items) a.at);
+      asked = names_at (map file_view a.files.items) a.asked;
+      rest = drop a.done (content_at (map file_view a.files.items) a.index);
       calls = a.calls;
       faults = a.faults;
     } };
@@ -49,61 +52,19 @@ impl MemShelf {
     /// `fails` lists, counted together from 0, fail; a read gives at most `piece` bytes.
     pub fn new(files: Vec<(String, Vec<u8>)>, fails: Vec<u64>, piece: u64) -> MemShelf
         requires { 0 < piece }
-        ensures { result ≡ record {
-          files = map shelved files.items;
-          fails = fails.items;
-          piece = piece;
-          asked = None;
-          rest = [];
-          calls = 0;
-          faults = 0;
-        } }
+        ensures { result ≡ new_shelf (map file_view files.items) fails.items piece }
     {
-        let at = files.len();
         MemShelf {
             files,
             fails,
             piece: piece as usize,
-            at,
+            asked: AskedIndices::new(),
+            index: None,
             done: 0,
             calls: 0,
             faults: 0,
         }
     }
-}
-
-// The place of the first file of this name, or the number of files.
-fn place(files: &[(String, Vec<u8>)], name: &str) -> usize
-    ensures found { nat_lt result (length files.now) ≡ is_some (file_named (map shelved files.now) name.now) }
-    ensures content { content_at (map shelved files.now) result ≡ unwrap_or (file_named (map shelved files.now) name.now) [] }
-    ensures name { name_at (map shelved files.now) result ≡ option_map (λ _. name.now) (file_named (map shelved files.now) name.now) }
-{
-    for (at, file) in files.iter().enumerate() {
-        if file.0.as_str() == name {
-            return at;
-        }
-    }
-    files.len()
-}
-
-// The bytes of the file at a place.
-fn content(files: &[(String, Vec<u8>)], at: usize) -> &[u8]
-    ensures { result.now ≡ content_at (map shelved files.now) at }
-{
-    match files.get(at) {
-        Some(file) => file.1.as_slice(),
-        None => &[],
-    }
-}
-
-// Copies a front, of at most so many bytes.
-fn copy_piece(from: &[u8], into: &mut [u8], most: usize) -> usize
-    ensures count { result ≡ min (min most (length into.old)) (length from.now) }
-    ensures bytes { take result into.new ≡ take result from.now }
-{
-    let count = most.min(into.len()).min(from.len());
-    into[..count].copy_from_slice(&from[..count]);
-    count
 }
 
 impl Shelf for MemShelf {
@@ -115,38 +76,35 @@ impl Shelf for MemShelf {
 
     ghost faults = { λ s. s.faults };
 
+    ghost counts_each = { true };
+
     /// Fails exactly where this call is listed and a file of this name is there.
     fn open(&mut self, name: &str) -> Result<bool, Failed>
         ensures files { self.new.files ≡ self.old.files }
-        ensures asked { IfSome self.new.asked (λ n. n ≡ name.now) }
-        ensures opened { IfOk result (λ found. Opens (Some self.old.files) name.now found (Some self.new.rest)) }
+        ensures asked { HasAsked self.old.asked (name.now ∷ []) self.new.asked }
+        ensures opened { IfOk result
+            (λ found. Opens (Some self.old.files) name.now found (Some self.new.rest)) }
         ensures dropped { OnErr result (self.new.rest ≡ []) }
         ensures present { OnErr result (IsSome (file_named self.old.files name.now)) }
         ensures cause { HasCause self.old.faults self.new.faults result }
+        ensures counted { self.new.faults ≡ count_after (is_err result) self.old.faults }
 
         // Which calls fail, what is told of the name, and the counts.
-        ensures fails { IsErr result ↔ (IsSome (file_named self.old.files name.now) × Contains self.old.fails self.old.calls) }
-        ensures told { self.new.asked ≡ option_map (λ _. name.now) (file_named self.old.files name.now) }
+        ensures fails { IsErr result ↔ FailsToOpen self.old name.now }
+        ensures told { self.new.asked ≡ names_after self.old.files self.old.asked name.now }
         ensures calls { self.new.calls ≡ next_count self.old.calls }
-        ensures counted { self.new.faults ≡ (if is_ok result then self.old.faults else next_count self.old.faults) }
-        ensures same { self.new ≡ record self.old {
-          asked = self.new.asked;
-          rest = self.new.rest;
-          calls = self.new.calls;
-          faults = self.new.faults;
-        } }
+        ensures same { SameShelf self.old self.new }
     {
         let call = self.calls;
         self.calls = call.saturating_add(1);
-        self.at = place(&self.files, name);
+        self.index = index_of(&self.files, name);
         self.done = 0;
-        let found = self.at < self.files.len();
-        if !found {
+        self.asked.push(self.index);
+        if self.index.is_none() {
             return Ok(false);
         }
         if self.fails.contains(&call) {
-            // No file is opened then.
-            self.done = content(&self.files, self.at).len();
+            self.index = None;
             self.faults = self.faults.saturating_add(1);
             return Err(Failed);
         }
@@ -161,13 +119,13 @@ impl Shelf for MemShelf {
         ensures bound { ReadsAtMost result into.new }
         ensures bytes { ReadConsumes (Some self.old.rest) (Some self.new.rest) result into.new }
         ensures cause { HasCause self.old.faults self.new.faults result }
+        ensures counted { self.new.faults ≡ count_after (is_err result) self.old.faults }
 
         // Which calls fail, how many bytes a read gives, and the counts.
         ensures fails { IsErr result ↔ Contains self.old.fails self.old.calls }
-        ensures amount { IfOk result (λ n. n ≡ min (min self.old.piece (length into.old)) (length self.old.rest)) }
+        ensures amount { IfOk result (λ n. n ≡ read_count self.old (length into.old)) }
         ensures calls { self.new.calls ≡ next_count self.old.calls }
-        ensures counted { self.new.faults ≡ (if is_ok result then self.old.faults else next_count self.old.faults) }
-        ensures same { self.new ≡ record self.old { rest = self.new.rest; calls = self.new.calls; faults = self.new.faults } }
+        ensures same { SameShelf self.old self.new }
     {
         let call = self.calls;
         self.calls = call.saturating_add(1);
@@ -175,7 +133,7 @@ impl Shelf for MemShelf {
             self.faults = self.faults.saturating_add(1);
             return Err(Failed);
         }
-        let bytes = content(&self.files, self.at);
+        let bytes = content(&self.files, self.index);
         let done = self.done.min(bytes.len());
         let count = copy_piece(&bytes[done..], into, self.piece);
         self.done = done + count;
@@ -185,4 +143,31 @@ impl Shelf for MemShelf {
     fn faults(&self) -> u64 {
         self.faults
     }
+}
+
+// The index of the first file of this name.
+fn index_of(files: &[(String, Vec<u8>)], name: &str) -> Option<usize>
+    ensures { IsIndexOf (map file_view files.now) name.now result }
+{
+    files.iter().position(|file| file.0.as_str() == name)
+}
+
+// The bytes of the file of an index.
+fn content(files: &[(String, Vec<u8>)], index: Option<usize>) -> &[u8]
+    ensures { result.now ≡ content_at (map file_view files.now) index }
+{
+    match index.and_then(|index| files.get(index)) {
+        Some(file) => file.1.as_slice(),
+        None => &[],
+    }
+}
+
+// Copies a front, of at most so many bytes.
+fn copy_piece(from: &[u8], into: &mut [u8], most: usize) -> usize
+    ensures count { result ≡ min (min most (length into.old)) (length from.now) }
+    ensures bytes { take result into.new ≡ take result from.now }
+{
+    let count = most.min(into.len()).min(from.len());
+    into[..count].copy_from_slice(&from[..count]);
+    count
 }

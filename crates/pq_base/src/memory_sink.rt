@@ -1,7 +1,8 @@
 // A sink in memory, whose calls fail by a list.
-ghost use Rattle.std.specs.Prelude.{◌≡◌, ◌≤◌, ◌<◌, ◌↔◌, ◌⊎◌, ◌-◌, min, [], length, IfOk, IsErr, Contains, Some, is_ok, if◌then◌else◌};
+ghost use Rattle.std.specs.Prelude.{◌≡◌, ◌≤◌, ◌<◌, ◌↔◌, ◌⊎◌, ◌-◌, min, [], length, IfOk, IsErr, Contains, Some, true, is_err, if◌then◌else◌};
 ghost use Rattle.std.specs.Io.KnownBytes.{WriteAppends};
-ghost use Rattle.pq_base.specs.Causes.{HasCause, next_count};
+ghost use Rattle.pq_base.specs.Causes.{HasCause, count_after, next_count};
+ghost use Rattle.pq_base.specs.MemorySink.{FailsToWrite, SameSink, new_sink, write_count};
 
 use crate::{Failed, OutOfMemory, Sink};
 use std::alloc::Global;
@@ -46,19 +47,10 @@ impl MemSink {
         piece: u64,
     ) -> Result<MemSink, OutOfMemory>
         requires { 0 < piece }
-        ensures { IfOk result (λ sink. sink ≡ record {
-          taken = [];
-          room = room;
-          fails = fails.items;
-          piece = piece;
-          calls = 0;
-          faults = 0;
-        }) }
+        ensures { IfOk result (λ sink. sink ≡ new_sink room fails.items piece) }
     {
         let room = room as usize;
-        let Ok(bytes) = Vec::with_capacity(alloc, room) else {
-            return Err(OutOfMemory);
-        };
+        let bytes = Vec::with_capacity(alloc, room)?;
         Ok(MemSink {
             bytes,
             room,
@@ -82,6 +74,8 @@ impl Sink for MemSink {
 
     ghost faults = { λ s. s.faults };
 
+    ghost counts_each = { true };
+
     /// Takes as many bytes as the least of the piece, what is handed in and the room that is left.
     fn write(&mut self, piece: &[u8]) -> Result<usize, Failed>
         requires { 0 < length piece.now }
@@ -90,11 +84,11 @@ impl Sink for MemSink {
         ensures cause { HasCause self.old.faults self.new.faults result }
 
         // Which calls fail, how many bytes a write takes, and the counts.
-        ensures fails { IsErr result ↔ (Contains self.old.fails self.old.calls ⊎ (self.old.room ≤ length self.old.taken)) }
-        ensures amount { IfOk result (λ n. n ≡ min (min self.old.piece (length piece.now)) (self.old.room - length self.old.taken)) }
+        ensures fails { IsErr result ↔ FailsToWrite self.old }
+        ensures amount { IfOk result (λ n. n ≡ write_count self.old piece.now) }
         ensures calls { self.new.calls ≡ next_count self.old.calls }
-        ensures counted { self.new.faults ≡ (if is_ok result then self.old.faults else next_count self.old.faults) }
-        ensures same { self.new ≡ record self.old { taken = self.new.taken; calls = self.new.calls; faults = self.new.faults } }
+        ensures counted { self.new.faults ≡ count_after (is_err result) self.old.faults }
+        ensures same { SameSink self.old self.new }
     {
         let call = self.calls;
         self.calls = call.saturating_add(1);

@@ -3,6 +3,7 @@ ghost use Rattle.std.specs.Prelude.{◌≡◌, ◌+◌, ◌*◌, ◌^◌, ◌<�
 ghost use Rattle.std.specs.Char.{is_ascii_digit};
 ghost use Rattle.std.specs.List.{list_all};
 ghost use Rattle.std.specs.Str.Parse.{digits_value_after};
+ghost use Rattle.pq_base.specs.Decimal.{digits_from};
 ghost use Rattle.pq_words.specs.Text.{digits_between, number};
 
 /// The number that one to ten digits write, leading zeros allowed; None for any other text.
@@ -33,7 +34,7 @@ pub(crate) fn digits(text: &[u8], most: usize) -> Option<u128>
 // The number that the digits of `front` and then those of the text write; None where a byte is no digit.
 pub(crate) fn with_digits(front: u128, text: &[u8]) -> Option<u128>
     requires { (front + 1) * 10 ^ length text.now ≤ 10 ^ 38 }
-    ensures value { result ≡ (if list_all is_ascii_digit text.now then Some (digits_value_after 10 front text.now) else None) }
+    ensures value { result ≡ digits_from front text.now }
     ensures within { IfSome result (λ n. n < (front + 1) * 10 ^ length text.now) }
 {
     let mut value = front;

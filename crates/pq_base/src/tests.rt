@@ -18,15 +18,18 @@ fn shelf(alloc: Global, fails: u64) -> Result<MemShelf, AllocError> {
     Ok(MemShelf::new(files, vec![in alloc; fails]?, 3))
 }
 
-// The call that fails, the name and the limit; what is read, and how many faults there are then.
-const READS: [(u64, &str, u64, Result<&[u8], ReadAll>, u64); 11] = [
+// The call that fails, the name and the limit; what is read, and how many faults there are then. Each
+// call of the whole reading fails in turn.
+const READS: [(u64, &str, u64, Result<&[u8], ReadAll>, u64); 13] = [
     (9, "a", 7, Ok(b"abcdefg"), 0),
     (9, "a", 6, Err(ReadAll::Over), 0),
     (9, "b", 0, Ok(b""), 0),
     (9, "c", 7, Err(ReadAll::Missing), 0),
     (0, "a", 7, Err(ReadAll::Failed), 1),
     (0, "c", 7, Err(ReadAll::Missing), 0),
+    (1, "a", 7, Err(ReadAll::Failed), 1),
     (2, "a", 7, Err(ReadAll::Failed), 1),
+    (3, "a", 7, Err(ReadAll::Failed), 1),
     (4, "a", 7, Err(ReadAll::Failed), 1),
     (3, "a", 6, Err(ReadAll::Failed), 1),
     (4, "a", 6, Err(ReadAll::Over), 0),
@@ -118,34 +121,5 @@ fn decimals_in_picovolts(rt: HostRuntime) -> Result<(), Fail> {
         };
         assert_eq!(rt; number.round(12, MOST), expected, "{digits} {exponent}");
     }
-    Ok(())
-}
-
-#[test]
-fn real_files_and_output(rt: HostRuntime) -> Result<(), Fail> {
-    let alloc = rt.alloc();
-    let mut shelf = FileShelf::new(&rt);
-    let mut piece = [1; 4];
-    assert_eq!(rt; shelf.read(&mut piece), Ok(0));
-    assert_eq!(rt; shelf.open("no such folder/no such file"), Ok(false));
-    assert_eq!(rt;
-        read_all(alloc, &mut shelf, "/dev/zero", 200_000),
-        Err(ReadAll::Over)
-    );
-    assert_eq!(rt; read_all(alloc, &mut shelf, "/dev/null", 0)?.len(), 0);
-    assert_eq!(rt; shelf.faults(), 0);
-    // A directory is opened, and its first read is refused.
-    assert_eq!(rt; shelf.open("."), Ok(true));
-    assert_eq!(rt; shelf.read(&mut piece), Err(Failed));
-    assert_eq!(rt; shelf.faults(), 1);
-    // What was opened last is dropped, also where nothing is opened.
-    assert_eq!(rt; shelf.open("/dev/zero"), Ok(true));
-    assert_eq!(rt; shelf.read(&mut piece), Ok(4));
-    assert_eq!(rt; piece, [0; 4]);
-    assert_eq!(rt; shelf.open("no such file"), Ok(false));
-    assert_eq!(rt; shelf.read(&mut piece), Ok(0));
-    let mut out = OutSink::new(&rt);
-    assert_eq!(rt; write_all(&mut out, b"\n"), Ok(()));
-    assert_eq!(rt; out.faults(), 0);
     Ok(())
 }

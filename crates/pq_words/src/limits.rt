@@ -17,3 +17,9 @@ pub const MOST_RATE: u64 = 200_000_000_000;
 
 /// The greatest distance of the first sample from 1970, in nanoseconds.
 pub const MOST_NANOSECONDS: u64 = 8_000_000_000_000_000_000;
+
+/// The greatest number of a channel.
+pub const MOST_NUMBER: u32 = 999;
+
+/// The most channels of a recording.
+pub const MOST_SELECTED: u64 = 16;

@@ -11,8 +11,8 @@ returns-in-Some c =
     let at = c.in-Some.at in
     first_part is_exponent_mark text at (sym c.in-Some.ensures)
     ∙ ap (λ rest. take at text ∷ slice_split is_exponent_mark rest)
-        (sym (take_all (length text - (at + 1)) (drop (at + 1) text)
-        (omega (arith, length-drop (at + 1) text))))
+    (sym (take_all (length text - (at + 1)) (drop (at + 1) text)
+    (omega (arith, length-drop (at + 1) text))))
 
 pub returns-in-None : goal.returns-in-None
 returns-in-None c = whole_part is_exponent_mark c.args.text.now (sym c.in-None.ensures)

@@ -10,8 +10,8 @@ returns-in-Some c =
     let at = c.in-Some.at in
     first_part (λ c. c == 46) text at (sym c.in-Some.ensures)
     ∙ ap (λ rest. take at text ∷ slice_split (λ c. c == 46) rest)
-        (sym (take_all (length text - (at + 1)) (drop (at + 1) text)
-        (omega (arith, length-drop (at + 1) text))))
+    (sym (take_all (length text - (at + 1)) (drop (at + 1) text)
+    (omega (arith, length-drop (at + 1) text))))
 
 pub returns-in-None : goal.returns-in-None
 returns-in-None c = whole_part (λ c. c == 46) c.args.text.now (sym c.in-None.ensures)

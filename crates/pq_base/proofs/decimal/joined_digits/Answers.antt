@@ -12,4 +12,4 @@ with_digits-requires-2 c = room_of_both c.in_ok-front.front (length c.args.whole
 pub returns-clause-value : goal.returns-clause-value
 returns-clause-value c =
     c.with_digits-2.ensures.value ∙ digits_of_both c.args.whole.now c.args.fraction.now c.in_ok-front.front
-        (omega arith) (omega arith) c.in_ok-front.ensures.value
+    (omega arith) (omega arith) c.in_ok-front.ensures.value

@@ -15,7 +15,7 @@ returns-in_err-exponent-in-Some c =
     let none = sym c.read_exponent.ensures.value ∙ c.in_err-exponent-in-Some.was in
     c.from_residual.ensures
     ∙ sym (decimal_with c.args.text.now sign.result.1.now mantissa sign.result.0 sign.ensures.negative
-        sign.ensures.unsigned c.in-Some.written.now cut
+    sign.ensures.unsigned c.in-Some.written.now cut
     ∙ ap (option_and_then (mantissa_of sign.result.0 (parted_at 46 mantissa))) none)
 
 -- an exponent follows the mark
@@ -28,7 +28,7 @@ returns-in_ok-exponent-in-Some c =
     let fits : FitsSigned w32 c.in_ok-exponent-in-Some.exponent = search rules in
     (simp to_z-of_z at c.read_mantissa.ensures)
     ∙ sym (decimal_with c.args.text.now sign.result.1.now mantissa sign.result.0 sign.ensures.negative
-        sign.ensures.unsigned c.in-Some.written.now cut
+    sign.ensures.unsigned c.in-Some.written.now cut
     ∙ ap (option_and_then (mantissa_of sign.result.0 (parted_at 46 mantissa))) some)
 
 -- no exponent mark
@@ -37,4 +37,4 @@ returns-in-None c =
     let cut = rw c.in-None.is at c.cut_exponent.ensures in
     let sign = c.cut_sign-negative in
     c.read_mantissa-in-None.ensures ∙ sym (decimal_without c.args.text.now sign.result.1.now
-        c.cut_exponent.result.0.now sign.result.0 sign.ensures.negative sign.ensures.unsigned cut)
+    c.cut_exponent.result.0.now sign.result.0 sign.ensures.negative sign.ensures.unsigned cut)

@@ -11,4 +11,4 @@ returns-in-Some c =
     let cut = rw c.in-Some.is at c.cut_point.ensures in
     (simp to_z-of_z at c.read_parts.ensures)
     ∙ sym (ap (λ parts. mantissa_of c.args.negative parts c.args.exponent) cut
-        ∙ with_fraction c.args.negative c.cut_point.result.0.now c.in-Some.fraction.now c.args.exponent)
+    ∙ with_fraction c.args.negative c.cut_point.result.0.now c.in-Some.fraction.now c.args.exponent)

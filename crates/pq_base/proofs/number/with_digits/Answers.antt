@@ -10,17 +10,28 @@ pub overflow_mul-value : goal.overflow_mul-value
 overflow_mul-value c =
     let i = c.loop-digit.digit-index in
     let most = c.args.front + 1 in
-    omega (arith, one_digit_more c.loop-digit.value 0 most i c.loop-digit.invariant.below (omega arith),
-        room_of_fewer most (i + 1) (length c.args.text.now) (omega arith), c.requires)
+    omega (
+      arith,
+      one_digit_more c.loop-digit.value 0 most i c.loop-digit.invariant.below (omega arith),
+      room_of_fewer most (i + 1) (length c.args.text.now) (omega arith),
+      c.requires,
+    )
 
 pub overflow_add-value : goal.overflow_add-value
 overflow_add-value c =
     let i = c.loop-digit.digit-index in
     let most = c.args.front + 1 in
-    let digit : c.from.result < 10 = omega (arith, c.if-not-is_ascii_digit.ensures.cases.0,
-        c.if-not-is_ascii_digit.ensures.cases.1) in
-    omega (arith, one_digit_more c.loop-digit.value c.from.result most i c.loop-digit.invariant.below digit,
-        room_of_fewer most (i + 1) (length c.args.text.now) (omega arith), c.requires)
+    let digit : c.from.result < 10 = omega (
+      arith,
+      c.if-not-is_ascii_digit.ensures.cases.0,
+      c.if-not-is_ascii_digit.ensures.cases.1,
+    ) in
+    omega (
+      arith,
+      one_digit_more c.loop-digit.value c.from.result most i c.loop-digit.invariant.below digit,
+      room_of_fewer most (i + 1) (length c.args.text.now) (omega arith),
+      c.requires,
+    )
 
 -- the value of one digit more
 pub loop-digit-preserved : goal.loop-digit-preserved

@@ -1,5 +1,6 @@
-use Rattle.std.proofs.Common.{◌≡◌, ◌≤◌, ◌+◌, ◌-◌, length}
+use Rattle.std.proofs.Common.{◌≡◌, ◌≤◌, ◌+◌, ◌-◌, false, length}
 use Rattle.std.specs.Io.KnownBytes.{Consumes}
+use Rattle.pq_base.specs.Causes.{CountsOnce}
 use Rattle.pq_base.proofs.shelf.read_rest.Given as goal
 
 abbrev pub invariant-loop-piece : goal.invariant-loop-piece
@@ -11,6 +12,7 @@ invariant-loop-piece g l =
       asked : g.K.Shelf.asked l.shelf ≡ g.K.Shelf.asked l.fn.shelf;
       bytes : Consumes (rest l.fn.shelf) (rest l.shelf) l.bytes.items;
       later : faults l.fn.shelf ≤ faults l.shelf;
+      counted : CountsOnce g.K.Shelf.counts_each (faults l.fn.shelf) (faults l.shelf) false;
     }
 
 abbrev pub decreases-loop-piece : goal.decreases-loop-piece

@@ -13,13 +13,14 @@ loop-done-preserved g c =
     let count = c.in-Ok.count in
     let rest = drop done c.args.bytes.now in
     let whole = take_all (length c.args.bytes.now - done) rest
-        (omega (arith, length-drop done c.args.bytes.now)) in
+    (omega (arith, length-drop done c.args.bytes.now)) in
     record {
       within = omega (arith, c.in-Ok.ensures.count.1, c.loop-done-test.true);
       bytes = subst (Appends (taken c.args.out.now) (taken c.write.new.self))
           (sym (take-add done count c.args.bytes.now))
           (Appends-trans _ (taken c.loop-done.out) _ _ _ c.loop-done.invariant.bytes
           (subst (λ bs. Appends (taken c.loop-done.out) (taken c.write.new.self) (take count bs)) whole
-              c.in-Ok.ensures.bytes));
+          c.in-Ok.ensures.bytes));
       later = omega (arith, c.loop-done.invariant.later, c.in-Ok.ensures.cause.later);
+      counted = λ each. cc (c.in-Ok.ensures.counted each, c.loop-done.invariant.counted each);
     }

@@ -1,5 +1,6 @@
-use Rattle.std.proofs.Common.{length, ◌-◌, ◌≤◌, take}
+use Rattle.std.proofs.Common.{false, length, ◌-◌, ◌≤◌, take}
 use Rattle.std.specs.Io.KnownBytes.{Appends}
+use Rattle.pq_base.specs.Causes.{CountsOnce}
 use Rattle.pq_base.proofs.sink.write_all.Given as goal
 
 abbrev pub invariant-loop-done : goal.invariant-loop-done
@@ -10,6 +11,7 @@ invariant-loop-done g l =
       within : l.done ≤ length l.bytes;
       bytes : Appends (taken l.fn.out) (taken l.out) (take l.done l.bytes);
       later : faults l.fn.out ≤ faults l.out;
+      counted : CountsOnce g.O.Sink.counts_each (faults l.fn.out) (faults l.out) false;
     }
 
 abbrev pub decreases-loop-done : goal.decreases-loop-done
