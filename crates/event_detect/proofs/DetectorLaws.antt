@@ -1,26 +1,25 @@
 -- What a detector keeps agrees with what it was fed, and goes on to.
-use Rattle.std.proofs.Common.{◌≡◌, ℕ, Bool, true, false, cond, List, [], ◌∷◌, ◌++◌, Option, Some, None, option_map, option_to_list, refl, sym, ◌∙◌, ap, subst}
+use Rattle.std.proofs.Common.{◌≡◌, ℕ, true, false, cond, List, [], ◌∷◌, ◌++◌, Option, Some, None, option_map, option_to_list, refl, sym, ◌∙◌, ap, subst}
 use Rattle.std.proofs.lemmas.List.{append_cancel_left}
 use Rattle.event_detect.specs.declared.event.Event.{Event}
-use Rattle.event_detect.specs.declared.detector.Running.{Running as Kept}
+use Rattle.event_detect.specs.declared.detector.RunningEvent.{RunningEvent}
 use Rattle.event_detect.specs.declared.kind.Kind.{Kind}
 use Rattle.event_detect.specs.VoltageEvent.{Condition, event_from, extents, ended_events, seen_value}
-use Rattle.event_detect.specs.Detector.{Running, Watch, open_at, HasSeen, Ends, SeesMore, StartsOpen, is_worse}
-use Rattle.event_detect.proofs.WorstLaws.{with_seen}
+use Rattle.event_detect.specs.Detector.{OpenEvent, Watch, open_at, HasSeen, Ends, SeesMore, StartsOpen, running_view, with_window}
 use Rattle.event_detect.proofs.EventLaws.{open_event, open_event_push, next_event, begun, closed_at, ended_event, ended_events_push, events_split, open_start_is}
 use Rattle.pq_words.specs.First.{first_of, first_between}
 use Rattle.pq_words.specs.Successors.{successors}
 
 -- an open event tells what is known of it
-open_only : (kind : Kind) (r s : Option Running) → option_to_list (option_map (open_at kind 0) r)
+open_only : (kind : Kind) (r s : Option OpenEvent) → option_to_list (option_map (open_at kind 0) r)
     ≡ option_to_list (option_map (open_at kind 0) s) → r ≡ s
 open_only kind r s same = sym (back r) ∙ ap known_in same ∙ back s
   where
-    known_in : List Event → Option Running
+    known_in : List Event → Option OpenEvent
     known_in [] = None
     known_in (e ∷ es) = Some (record { start = e.start; channel = e.channel; value = e.value })
 
-    back : (r : Option Running) → known_in (option_to_list (option_map (open_at kind 0) r)) ≡ r
+    back : (r : Option OpenEvent) → known_in (option_to_list (option_map (open_at kind 0) r)) ≡ r
     back None = refl
     back (Some r) = refl
 
@@ -30,7 +29,7 @@ running_is w fed seen =
     let left = option_to_list (option_map (open_at w.kind 0) w.running) in
     let right = option_to_list (option_map (open_at w.kind 0) (open_event w.kind fed)) in
     open_only w.kind w.running (open_event w.kind fed)
-        (append_cancel_left (ended_events w.kind fed) left right (sym (seen 0) ∙ events_split w.kind 0 fed))
+    (append_cancel_left (ended_events w.kind fed) left right (sym (seen 0) ∙ events_split w.kind 0 fed))
 
 has_seen : (w : Watch) (fed : List Condition) → w.running ≡ open_event w.kind fed → HasSeen w fed
 has_seen w fed is n = events_split w.kind n fed ∙ ap
@@ -50,37 +49,33 @@ ends_of : (w : Watch) (c : Condition) (answer : Option Event) → ended_event w.
 ends_of w c answer is fed seen =
     ended_events_push w.kind fed c
     ∙ ap (λ o. ended_events w.kind fed ++ option_to_list (ended_event w.kind c.ends c o))
-        (sym (running_is w fed seen))
+    (sym (running_is w fed seen))
     ∙ ap (λ o. ended_events w.kind fed ++ option_to_list o) is
 
 -- what runs after one more condition
-sees_of : (w : Watch) (c : Condition) (o : Option Running) → next_event w.kind c.begins c.ends c w.running ≡ o
-    → SeesMore w (record { kind = w.kind; running = o }) c
+sees_of : (w : Watch) (c : Condition) (o : Option OpenEvent)
+    → next_event w.kind c.begins c.ends c w.running ≡ o → SeesMore w (record { kind = w.kind; running = o }) c
 sees_of w c o is fed seen =
     has_seen (record { kind = w.kind; running = o }) (fed ++ c ∷ [])
     (sym is ∙ ap (next_event w.kind c.begins c.ends c) (running_is w fed seen)
-        ∙ sym (open_event_push w.kind fed c))
+    ∙ sym (open_event_push w.kind fed c))
 
-abbrev pub watch : Kind → Option Running → Watch
+abbrev pub watch : Kind → Option OpenEvent → Watch
 watch kind o = record { kind = kind; running = o }
 
 -- ---- the ways of a step, of a detector that is known by its parts
 
--- what the fields say of the event that runs
-abbrev pub shown : Kept → Running
-shown r = record { start = r.start; channel = r.channel; value = r.value }
-
 -- a detector, by what was found in its field
-pub parts : (kind : Kind) (field found : Option Kept) (w : Watch) → field ≡ found →
-    watch kind (option_map shown field) ≡ w → watch kind (option_map shown found) ≡ w
-parts kind field found w is view = sym (ap (λ o. watch kind (option_map shown o)) is) ∙ view
+pub parts : (kind : Kind) (field found : Option RunningEvent) (w : Watch) → field ≡ found →
+    watch kind (option_map running_view field) ≡ w → watch kind (option_map running_view found) ≡ w
+parts kind field found w is view = sym (ap (λ o. watch kind (option_map running_view o)) is) ∙ view
 
-step_ends : (w : Watch) (kind : Kind) (o : Option Running) (c : Condition) (answer : Option Event) →
+step_ends : (w : Watch) (kind : Kind) (o : Option OpenEvent) (c : Condition) (answer : Option Event) →
     watch kind o ≡ w → ended_event kind c.ends c o ≡ answer → Ends w c answer
 step_ends w kind o c answer is ended = let P : Watch → Type 0 = λ w. Ends w c answer in
     subst P is (ends_of (watch kind o) c answer ended)
 
-step_sees : (w : Watch) (kind : Kind) (o next : Option Running) (c : Condition) → watch kind o ≡ w →
+step_sees : (w : Watch) (kind : Kind) (o next : Option OpenEvent) (c : Condition) → watch kind o ≡ w →
     next_event kind c.begins c.ends c o ≡ next → SeesMore w (watch kind next) c
 step_sees w kind o next c is goes_on = let P : Watch → Type 0 = λ w. SeesMore w (watch kind next) c in
     subst P is (sees_of (watch kind o) c next goes_on)
@@ -101,67 +96,54 @@ idle_stays w kind c is stays =
     subst P is (step_sees w kind None None c is (ap (λ b. cond b (Some (begun c)) None) stays))
 
 -- one that runs ends
-pub running_ends : (w : Watch) (kind : Kind) (r next : Running) (c : Condition) (answer : Event) →
+pub running_ends : (w : Watch) (kind : Kind) (r next : OpenEvent) (c : Condition) (answer : Event) →
     watch kind (Some r) ≡ w → c.ends ≡ true
-    → with_seen kind r c.channel (seen_value c) ≡ next → answer ≡ closed_at kind c.window.end next →
-        Ends w c (Some answer)
+    → with_window kind r c.channel (seen_value c) ≡ next → answer ≡ closed_at kind c.window.end next →
+    Ends w c (Some answer)
 running_ends w kind r next c answer is ends more closed =
     step_ends w kind (Some r) c (Some answer) is
-    (ap (λ e. cond e (Some (closed_at kind c.window.end (with_seen kind r c.channel (seen_value c)))) None)
-        ends
+    (ap (λ e. cond e (Some (closed_at kind c.window.end (with_window kind r c.channel (seen_value c)))) None)
+    ends
     ∙ ap (λ r. Some (closed_at kind c.window.end r)) more
     ∙ ap Some (sym closed))
 
-pub running_stops : (w : Watch) (kind : Kind) (r : Running) (c : Condition) → watch kind (Some r) ≡ w → c.ends
-    ≡ true → SeesMore w (watch kind None) c
+pub running_stops : (w : Watch) (kind : Kind) (r : OpenEvent) (c : Condition) → watch kind (Some r) ≡ w
+    → c.ends ≡ true → SeesMore w (watch kind None) c
 running_stops w kind r c is ends = step_sees w kind (Some r) None c is
-    (ap (λ e. cond e None (Some (with_seen kind r c.channel (seen_value c)))) ends)
+    (ap (λ e. cond e None (Some (with_window kind r c.channel (seen_value c)))) ends)
 
 -- or goes on
-pub running_stays : (w : Watch) (kind : Kind) (r : Running) (c : Condition) → watch kind (Some r) ≡ w → c.ends
-    ≡ false → Ends w c None
+pub running_stays : (w : Watch) (kind : Kind) (r : OpenEvent) (c : Condition) → watch kind (Some r) ≡ w
+    → c.ends ≡ false → Ends w c None
 running_stays w kind r c is stays =
     step_ends w kind (Some r) c None is (ap (λ e. cond e
-        (Some (closed_at kind c.window.end (with_seen kind r c.channel (seen_value c)))) None) stays)
+    (Some (closed_at kind c.window.end (with_window kind r c.channel (seen_value c)))) None) stays)
 
-pub running_goes_on : (w : Watch) (kind : Kind) (r next : Running) (c : Condition) → watch kind (Some r) ≡ w →
-    c.ends ≡ false
-    → with_seen kind r c.channel (seen_value c) ≡ next → SeesMore w (watch kind (Some next)) c
+pub running_goes_on : (w : Watch) (kind : Kind) (r next : OpenEvent) (c : Condition)
+    → watch kind (Some r) ≡ w → c.ends ≡ false
+    → with_window kind r c.channel (seen_value c) ≡ next → SeesMore w (watch kind (Some next)) c
 running_goes_on w kind r next c is stays more =
     step_sees w kind (Some r) (Some next) c is (ap (λ e. cond e None
-        (Some (with_seen kind r c.channel (seen_value c)))) stays ∙ ap Some more)
-
--- what is known after one more window, part by part
-pub with_parts : (kind : Kind) (r next : Running) (channel value : ℕ) → next.start ≡ r.start
-    → next.channel ≡ cond (is_worse kind value r.value) channel r.channel → next.value
-        ≡ cond (is_worse kind value r.value) value r.value
-    → with_seen kind r channel value ≡ next
-with_parts kind r next channel value start_is channel_is value_is =
-    at (is_worse kind value r.value)
-    ∙ sym (ap (λ n. made n next.channel next.value) start_is ∙ ap (λ n. made r.start n next.value) channel_is
-        ∙ ap (made r.start (cond (is_worse kind value r.value) channel r.channel)) value_is)
-  where
-    made : ℕ → ℕ → ℕ → Running
-    made start channel value = record { start = start; channel = channel; value = value }
-
-    at : (b : Bool) → cond b (made r.start channel value) r
-        ≡ made r.start (cond b channel r.channel) (cond b value r.value)
-    at true = refl
-    at false = refl
+    (Some (with_window kind r c.channel (seen_value c)))) stays ∙ ap Some more)
 
 -- where the event that runs began
 pub starts_open : (w : Watch) (answer : Option ℕ) → answer ≡ option_map (λ r. r.start) w.running →
     StartsOpen w answer
-starts_open w answer is fed seen = is ∙ ap (option_map (λ (r : Running). r.start)) (running_is w fed seen)
+starts_open w answer is fed seen = is ∙ ap (option_map (λ (r : OpenEvent). r.start)) (running_is w fed seen)
     ∙ sym (open_start_is w.kind fed)
 
 -- every detector has seen some list
 pub seen_some : (w : Watch) → (fed : List Condition) × HasSeen w fed
 seen_some w = at w.kind w.running
   where
-    at : (kind : Kind) (o : Option Running) → (fed : List Condition) × HasSeen (watch kind o) fed
+    at : (kind : Kind) (o : Option OpenEvent) → (fed : List Condition) × HasSeen (watch kind o) fed
     at kind None = ([], nothing_seen (watch kind None) refl)
     at kind (Some r) =
-        let c : Condition = record { begins = true; ends = false; channel = r.channel; window =
-            record { start = r.start; end = 0; value = r.value } } in
+        let c : Condition = record {
+          begins = true;
+          ends = false;
+          channel = r.channel;
+          window =
+              record { start = r.start; end = 0; value = r.value };
+        } in
         (c ∷ [], idle_begins (watch kind None) kind c refl refl [] (nothing_seen (watch kind None) refl))

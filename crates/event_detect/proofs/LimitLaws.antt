@@ -3,8 +3,7 @@ use Rattle.std.proofs.Common.{ℕ, ◌+◌, ◌-◌, ◌*◌, ◌<◌, ◌≤◌
 use Rattle.std.proofs.lemmas.Bool.{ltb-true, leb-true}
 use Rattle.std.proofs.Math.Nat.{mul-lt-mul_of_pos_left}
 use Rattle.event_detect.specs.declared.limits.Settings.{Settings}
-use Rattle.event_detect.specs.declared.limits.Limits.{Limits}
-use Rattle.event_detect.specs.Threshold.{IsInRange, IsSound, IsInOrder, IsApart, limits_of, class_of}
+use Rattle.event_detect.specs.Threshold.{IsInRange, IsSound, IsInOrder, KeepsApart, limits_of, class_of}
 
 -- more thousandths are more microvolts
 more : (udin a b : ℕ) → 1 ≤ udin → a < b → udin * a < udin * b
@@ -26,7 +25,7 @@ limits_in_order s range sound =
     }
 
 -- of thresholds in order, no value both begins and ends an event of one kind
-pub classes_apart : (limits : Limits) (value : ℕ) → IsInOrder limits → IsApart (class_of limits value)
+pub classes_apart : KeepsApart
 unfolding class_of
 classes_apart l v order = record {
   dip = λ below clear. absurd (omega (arith, order.dip, ltb-true, leb-true));

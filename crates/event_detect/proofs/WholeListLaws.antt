@@ -5,7 +5,7 @@ use Rattle.std.proofs.lemmas.List.{append-nil, append_cancel_left}
 use Rattle.event_detect.specs.declared.event.Event.{Event}
 use Rattle.event_detect.specs.declared.kind.Kind.{Kind}
 use Rattle.event_detect.specs.VoltageEvent.{Condition, event_from, extents, events, ended_events}
-use Rattle.event_detect.specs.Detector.{Running, Watch, HasSeen}
+use Rattle.event_detect.specs.Detector.{OpenEvent, Watch, HasSeen}
 use Rattle.event_detect.specs.WholeList.{StepsOver, GivesEvents}
 use Rattle.event_detect.proofs.EventLaws.{open_event, ended_event, ended_events_push}
 use Rattle.event_detect.proofs.DetectorLaws.{seen_some}
@@ -33,9 +33,9 @@ gone w last fed (c ∷ cs) (a ∷ more) seen steps =
     let rest = gone next last (fed ++ c ∷ []) cs more (steps.2 fed seen) steps.4 in
     let longer : (fed ++ c ∷ []) ++ cs ≡ fed ++ c ∷ cs = append_snoc fed c cs in
     let given : ended_events w.kind ((fed ++ c ∷ []) ++ cs) ≡ ended_events w.kind (fed ++ c ∷ [])
-        ++ flat_map option_to_list more =
+    ++ flat_map option_to_list more =
     subst (λ kind. ended_events kind ((fed ++ c ∷ []) ++ cs) ≡ ended_events kind (fed ++ c ∷ [])
-        ++ flat_map option_to_list more) steps.3 rest.given in
+    ++ flat_map option_to_list more) steps.3 rest.given in
     record {
       kind = rest.kind ∙ steps.3;
       seen = subst (λ cs. HasSeen last cs) longer rest.seen;
@@ -53,7 +53,7 @@ unfolding ended_events extents event_from successors first_between first_of
 none_ended kind = refl
 
 -- the only event that a condition ends ends with its window
-ended_there : (kind : Kind) (e : Bool) (c : Condition) (o : Option Running) (event : Event) →
+ended_there : (kind : Kind) (e : Bool) (c : Condition) (o : Option OpenEvent) (event : Event) →
     ended_event kind e c o ≡ Some event → (event.end ≡ c.window.end) × (event.is_open ≡ false)
 ended_there kind e c None event is = absurd (let bad : ⊥ = cc in bad)
 ended_there kind false c (Some r) event is = absurd (let bad : ⊥ = cc in bad)
@@ -78,24 +78,24 @@ one_only a b same = sym (back a) ∙ ap first_in same ∙ back b
     back None = refl
     back (Some event) = refl
 
-at_place : (w last : Watch) (fed cs : List Condition) (answers : List (Option Event)) (k : ℕ) (c : Condition)
+at_index : (w last : Watch) (fed cs : List Condition) (answers : List (Option Event)) (k : ℕ) (c : Condition)
     (event : Event) → HasSeen w fed → StepsOver w cs answers last
     → slice_get cs k ≡ Some c → slice_get answers k ≡ Some (Some event) → (event.end ≡ c.window.end) ×
-        (event.is_open ≡ false)
-at_place w last fed [] answers k c event seen steps here there = absurd (let bad : ⊥ = cc in bad)
-at_place w last fed (d ∷ cs) [] k c event seen steps here there = absurd steps
-at_place w last fed (d ∷ cs) (a ∷ more) zero c event seen steps here there =
+    (event.is_open ≡ false)
+at_index w last fed [] answers k c event seen steps here there = absurd (let bad : ⊥ = cc in bad)
+at_index w last fed (d ∷ cs) [] k c event seen steps here there = absurd steps
+at_index w last fed (d ∷ cs) (a ∷ more) zero c event seen steps here there =
     let same : d ≡ c = cc in
     let answer : a ≡ Some event = cc in
     let ended : option_to_list a ≡ option_to_list (ended_event w.kind d.ends d (open_event w.kind fed)) =
     append_cancel_left (ended_events w.kind fed) (option_to_list a)
-        (option_to_list (ended_event w.kind d.ends d (open_event w.kind fed)))
+    (option_to_list (ended_event w.kind d.ends d (open_event w.kind fed)))
     (sym (steps.1 fed seen) ∙ ended_events_push w.kind fed d) in
     subst (λ (c : Condition). (event.end ≡ c.window.end) × (event.is_open ≡ false)) same
     (ended_there w.kind d.ends d (open_event w.kind fed) event
-        (sym (one_only a (ended_event w.kind d.ends d (open_event w.kind fed)) ended) ∙ answer))
-at_place w last fed (d ∷ cs) (a ∷ more) (suc k) c event seen steps here there =
-    at_place steps.0 last (fed ++ d ∷ []) cs more k c event (steps.2 fed seen) steps.4 here there
+    (sym (one_only a (ended_event w.kind d.ends d (open_event w.kind fed)) ended) ∙ answer))
+at_index w last fed (d ∷ cs) (a ∷ more) (suc k) c event seen steps here there =
+    at_index steps.0 last (fed ++ d ∷ []) cs more k c event (steps.2 fed seen) steps.4 here there
 
 pub gives_events : GivesEvents
 gives_events = record {
@@ -103,11 +103,11 @@ gives_events = record {
   all = λ n cs first last answers final seen steps left.
       let after = gone first last [] cs answers seen steps in
       let ends : events last.kind n cs ≡ ended_events last.kind cs ++ option_to_list final =
-          left cs after.seen in
+      left cs after.seen in
       sym
       (subst (λ kind. events kind n cs ≡ ended_events kind cs ++ option_to_list final) after.kind ends
       ∙ ap (λ es. es ++ option_to_list final) (after.given
-          ∙ ap (λ es. es ++ flat_map option_to_list answers) (none_ended first.kind)));
-  places = λ cs first last answers k c event seen steps here there. at_place first last [] cs answers k c
+      ∙ ap (λ es. es ++ flat_map option_to_list answers) (none_ended first.kind)));
+  ends_there = λ cs first last answers k c event seen steps here there. at_index first last [] cs answers k c
       event seen steps here there;
 }

@@ -7,7 +7,7 @@ use Rattle.event_detect.specs.declared.kind.Kind.{Kind}
 use Rattle.event_detect.specs.declared.kind.Kind.TheVariants.{Dip, Swell, Interruption}
 use Rattle.event_detect.specs.VoltageEvent.{Condition, worse, worst, seen_value}
 use Rattle.std.specs.Option.{option_map_or}
-use Rattle.event_detect.specs.Detector.{Running, is_worse}
+use Rattle.event_detect.specs.Detector.{OpenEvent, is_worse, with_window}
 
 -- ---- the order of a kind
 
@@ -56,8 +56,8 @@ worst_value : (kind : Kind) (x : Condition) (xs : List Condition) → worst kind
 worst_value kind x [] = refl
 worst_value kind x (y ∷ ys) =
     ap (λ v. fold (worse kind) v (map seen_value ys))
-        (worse_is kind (seen_value x) (seen_value y) ∙ value_of_either
-        (is_worse kind (seen_value y) (seen_value x)) y x)
+    (worse_is kind (seen_value x) (seen_value y) ∙ value_of_either
+    (is_worse kind (seen_value y) (seen_value x)) y x)
     ∙ worst_value kind (keep kind x y) ys
 
 -- the worst is at least as bad as the first
@@ -86,22 +86,22 @@ found_later : (kind : Kind) (x y : Condition) (ys : List Condition) (w : Conditi
     → find (has_value w) (y ∷ ys) ≡ Some w → find (has_value w) (x ∷ y ∷ ys) ≡ Some w
 found_later kind x y ys w worse least later =
     let apart : seen_value x ≡ seen_value w → ⊥ = λ e. both_ways (is_worse kind (seen_value y) (seen_value w))
-        (subst (λ v. is_worse kind (seen_value y) v ≡ true) e worse) least in
+    (subst (λ v. is_worse kind (seen_value y) v ≡ true) e worse) least in
     ap (λ b. cond b (Some x) (find (has_value w) (y ∷ ys))) (ne_eqb (seen_value x) (seen_value w) apart)
-        ∙ later
+    ∙ later
 
--- one that is not worse than the one before it is not found in its place
+-- one that is not worse than the one before it is not found instead of it
 found_before : (kind : Kind) (x y : Condition) (ys : List Condition) (w : Condition) (b : Bool) →
     has_value w x ≡ b
     → is_worse kind (seen_value y) (seen_value x) ≡ false → is_worse kind (seen_value x) (seen_value w)
-        ≡ false
+    ≡ false
     → cond b (Some x) (find (has_value w) ys) ≡ Some w → cond b (Some x) (find (has_value w) (y ∷ ys))
-        ≡ Some w
+    ≡ Some w
 found_before kind x y ys w true has no_worse least found = found
 found_before kind x y ys w false has no_worse least found =
     let apart : seen_value y ≡ seen_value w → ⊥ = λ e.
     eqb-false (seen_value x) (seen_value w) has (neither_worse kind (seen_value x) (seen_value y)
-        (subst (λ v. is_worse kind (seen_value x) v ≡ false) (sym e) least) no_worse ∙ e) in
+    (subst (λ v. is_worse kind (seen_value x) v ≡ false) (sym e) least) no_worse ∙ e) in
     ap (λ b. cond b (Some y) (find (has_value w) ys)) (ne_eqb (seen_value y) (seen_value w) apart) ∙ found
 
 found : (kind : Kind) (x : Condition) (xs : List Condition) →
@@ -113,19 +113,14 @@ found kind x (y ∷ ys) = at (is_worse kind (seen_value y) (seen_value x)) refl
     at : (b : Bool) → is_worse kind (seen_value y) (seen_value x) ≡ b
         → is_worse kind (seen_value (cond b y x)) (seen_value (first_worst kind (cond b y x) ys)) ≡ false
         → find (has_value (first_worst kind (cond b y x) ys)) (cond b y x ∷ ys)
-            ≡ Some (first_worst kind (cond b y x) ys)
+        ≡ Some (first_worst kind (cond b y x) ys)
         → find (has_value (first_worst kind (cond b y x) ys)) (x ∷ y ∷ ys)
-            ≡ Some (first_worst kind (cond b y x) ys)
+        ≡ Some (first_worst kind (cond b y x) ys)
     at true is least later = found_later kind x y ys (first_worst kind y ys) is least later
     at false is least later = found_before kind x y ys (first_worst kind x ys)
         (has_value (first_worst kind x ys) x) refl is least later
 
 -- ---- what is known of the event over what was seen of it
-
--- after one more window: the first of equally bad values stays
-abbrev pub with_seen : Kind → Running → ℕ → ℕ → Running
-with_seen kind r channel value = cond (is_worse kind value r.value)
-    (record { start = r.start; channel = channel; value = value }) r
 
 abbrev pub value_of : Kind → List Condition → ℕ
 value_of kind seen = worst kind (map seen_value seen)
@@ -133,20 +128,24 @@ value_of kind seen = worst kind (map seen_value seen)
 abbrev pub channel_of : Kind → List Condition → ℕ
 channel_of kind seen = option_map_or (λ c. c.channel) (find (λ c. seen_value c == value_of kind seen) seen) 0
 
-abbrev pub known : Kind → ℕ → List Condition → Running
+abbrev pub known : Kind → ℕ → List Condition → OpenEvent
 known kind start seen = record { start = start; channel = channel_of kind seen; value = value_of kind seen }
 
-abbrev known_by : ℕ → Condition → Running
+abbrev known_by : ℕ → Condition → OpenEvent
 known_by start w = record { start = start; channel = w.channel; value = seen_value w }
 
 known_is : (kind : Kind) (start : ℕ) (x : Condition) (xs : List Condition) → known kind start (x ∷ xs)
     ≡ known_by start (first_worst kind x xs)
 known_is kind start x xs =
     let w = first_worst kind x xs in
-    let of_value : ℕ → Running = λ v. record { start = start; channel =
-        option_map_or (λ c. c.channel) (find (λ c. seen_value c == v) (x ∷ xs)) 0; value = v } in
-    let of_found : Option Condition → Running = λ o. record
-        { start = start; channel = option_map_or (λ c. c.channel) o 0; value = seen_value w } in
+    let of_value : ℕ → OpenEvent = λ v. record {
+      start = start;
+      channel =
+          option_map_or (λ c. c.channel) (find (λ c. seen_value c == v) (x ∷ xs)) 0;
+      value = v;
+    } in
+    let of_found : Option Condition → OpenEvent = λ o. record
+    { start = start; channel = option_map_or (λ c. c.channel) o 0; value = seen_value w } in
     ap of_value (worst_value kind x xs) ∙ ap of_found (found kind x xs)
 
 known_either : (b : Bool) (start : ℕ) (c w : Condition) → known_by start (cond b c w)
@@ -156,14 +155,14 @@ known_either false start c w = refl
 
 -- one more condition, seen after others
 pub known_push : (kind : Kind) (start : ℕ) (x : Condition) (xs : List Condition) (c : Condition)
-    → known kind start ((x ∷ xs) ++ c ∷ []) ≡ with_seen kind (known kind start (x ∷ xs)) c.channel
-        (seen_value c)
+    → known kind start ((x ∷ xs) ++ c ∷ []) ≡ with_window kind (known kind start (x ∷ xs)) c.channel
+    (seen_value c)
 known_push kind start x xs c =
     let w = first_worst kind x xs in
     known_is kind start x (xs ++ c ∷ [])
     ∙ ap (known_by start) (fold-append (keep kind) x xs (c ∷ []))
     ∙ known_either (is_worse kind (seen_value c) (seen_value w)) start c w
-    ∙ ap (λ r. with_seen kind r c.channel (seen_value c)) (sym (known_is kind start x xs))
+    ∙ ap (λ r. with_window kind r c.channel (seen_value c)) (sym (known_is kind start x xs))
 
 -- a first condition
 pub known_first : (kind : Kind) (start : ℕ) (c : Condition) → known kind start (c ∷ [])

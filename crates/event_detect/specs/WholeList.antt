@@ -7,8 +7,8 @@ use Rattle.event_detect.specs.Detector.{Watch, HasSeen, Ends, SeesMore, LeavesOp
 -- a detector steps over the conditions, one after another: an answer at each, and the detector after them
 abbrev pub StepsOver : Watch → List Condition → List (Option Event) → Watch → Type 0
 StepsOver w [] [] last = last ≡ w
-StepsOver w (c ∷ cs) (a ∷ more) last = (next : Watch) × Ends w c a × SeesMore w next c × (next.kind ≡ w.kind)
-    × StepsOver next cs more last
+StepsOver w (c ∷ cs) (a ∷ more) last =
+    (next : Watch) × Ends w c a × SeesMore w next c × (next.kind ≡ w.kind) × StepsOver next cs more last
 StepsOver w [] (a ∷ more) last = ⊥
 StepsOver w (c ∷ cs) [] last = ⊥
 
@@ -21,8 +21,8 @@ pub record GivesEvents : Type 0 where
       → HasSeen first [] → StepsOver first conditions answers last → LeavesOpen last n final
       → flat_map option_to_list answers ++ option_to_list final ≡ events first.kind n conditions
   -- each at the window that ends it
-  pub places : (conditions : List Condition) (first last : Watch) (answers : List (Option Event)) (k : ℕ)
+  pub ends_there : (conditions : List Condition) (first last : Watch) (answers : List (Option Event)) (k : ℕ)
       (c : Condition) (event : Event)
-      → HasSeen first [] → StepsOver first conditions answers last → slice_get conditions k ≡ Some c →
-          slice_get answers k ≡ Some (Some event)
+      → HasSeen first [] → StepsOver first conditions answers last
+      → slice_get conditions k ≡ Some c → slice_get answers k ≡ Some (Some event)
       → (event.end ≡ c.window.end) × (event.is_open ≡ false)

@@ -1,77 +1,26 @@
 // The machine that finds the events of one kind, window by window.
-ghost use Rattle.std.specs.Prelude.{◌≡◌, ◌↔◌, [], IsTrue, IsSome, option_map, if◌then◌else◌};
-ghost use Rattle.event_detect.specs.Detector.{HasSeen, Ends, SeesMore, LeavesOpen, StartsOpen, condition, is_worse};
+ghost use Rattle.std.specs.Prelude.{◌≡◌, ◌↔◌, [], IsTrue, IsSome, option_map};
+ghost use Rattle.event_detect.specs.Detector.{HasSeen, Ends, SeesMore, LeavesOpen, StartsOpen, condition, event_until, is_worse, running_view, with_window};
 
 use crate::event::Event;
 use crate::kind::Kind;
 use crate::window::Window;
 use std::marker::Model;
 
-// What is known of the event that runs: its worst value so far, and the channel that had this first.
-#[derive(Clone, Copy)]
-struct Running {
-    start: u64,
-    channel: u32,
-    value: u64,
-}
-
-impl Running {
-    // What is known after one more window.
-    fn with(self, kind: Kind, channel: u32, value: u64) -> Running
-        ensures start { result.start ≡ self.start }
-        ensures channel { result.channel ≡ (if is_worse kind value self.value then channel else self.channel) }
-        ensures value { result.value ≡ (if is_worse kind value self.value then value else self.value) }
-    {
-        if is_worse(kind, value, self.value) {
-            Running {
-                start: self.start,
-                channel,
-                value,
-            }
-        } else {
-            self
-        }
-    }
-
-    // The event, up to a place.
-    fn event(self, kind: Kind, end: u64, is_open: bool) -> Event
-        ensures { result ≡ record { kind = kind; start = self.start; end = end; channel = self.channel; value = self.value; is_open = is_open } }
-    {
-        Event {
-            kind,
-            start: self.start,
-            end,
-            channel: self.channel,
-            value: self.value,
-            is_open,
-        }
-    }
-}
-
-// The value is worse than another: less for a dip and an interruption, greater for a swell.
-fn is_worse(kind: Kind, value: u64, than: u64) -> bool
-    ensures { result ≡ is_worse kind value than }
-{
-    match kind {
-        Kind::Swell => value > than,
-        Kind::Dip | Kind::Interruption => value < than,
-    }
-}
-
 /// Finds the events of one kind among the windows that it is fed (IEC 61000-4-30:2015, 5.4, 5.5).
 #[derive(Drop)]
 pub struct Detector {
     kind: Kind,
-    running: Option<Running>,
+    running: Option<RunningEvent>,
 }
 
 impl Model for Detector {
     ghost use Rattle.std.specs.Prelude.{option_map};
-    ghost use Rattle.event_detect.specs.Detector.{Watch};
+    ghost use Rattle.event_detect.specs.Detector.{Watch, running_view};
 
     ghost Value = { Watch };
 
-    ghost view = { λ d. record { kind = d.kind; running = option_map (λ r. record { start = r.start; channel = r.channel; value = r.value }) d.running } };
+    ghost view = { λ d. record { kind = d.kind; running = option_map running_view d.running } };
 }
 
 impl Detector {
@@ -98,7 +47,7 @@ impl Detector {
     {
         let Some(running) = self.running else {
             if begins {
-                self.running = Some(Running {
+                self.running = Some(RunningEvent {
                     start: window.start,
                     channel,
                     value: window.value,
@@ -133,5 +82,54 @@ impl Detector {
         ensures start { StartsOpen self.now result }
     {
         self.running.map(|running| running.start)
+    }
+}
+
+// What is known of the event that runs: its worst value so far, and the channel that had this first.
+#[derive(Clone, Copy)]
+struct RunningEvent {
+    start: u64,
+    channel: u32,
+    value: u64,
+}
+
+impl RunningEvent {
+    // What is known after one more window.
+    fn with(self, kind: Kind, channel: u32, value: u64) -> RunningEvent
+        ensures { running_view result ≡ with_window kind (running_view self) channel value }
+    {
+        if is_worse(kind, value, self.value) {
+            RunningEvent {
+                start: self.start,
+                channel,
+                value,
+            }
+        } else {
+            self
+        }
+    }
+
+    // The event, up to a place.
+    fn event(self, kind: Kind, end: u64, is_open: bool) -> Event
+        ensures { result ≡ event_until kind (running_view self) end is_open }
+    {
+        Event {
+            kind,
+            start: self.start,
+            end,
+            channel: self.channel,
+            value: self.value,
+            is_open,
+        }
+    }
+}
+
+// The value is worse than another: less for a dip and an interruption, greater for a swell.
+fn is_worse(kind: Kind, value: u64, than: u64) -> bool
+    ensures { result ≡ is_worse kind value than }
+{
+    match kind {
+        Kind::Swell => value > than,
+        Kind::Dip | Kind::Interruption => value < than,
     }
 }

@@ -2,6 +2,12 @@
 ghost use Rattle.std.specs.Prelude.{◌≡◌, ◌+◌, ◌*◌, ◌≤◌, ◌↔◌, IsTrue, IsOk, IfOk};
 ghost use Rattle.event_detect.specs.Threshold.{IsInRange, IsSound, IsInOrder, limits_of, class_of};
 
+/// The greatest declared voltage, in millivolts (profile).
+pub const MOST_UDIN: u64 = 1_000_000_000;
+
+/// The most thousandths of the declared voltage that a threshold or the hysteresis may have (profile).
+pub const MOST_THOUSANDTHS: u32 = 2000;
+
 /// The declared voltage in millivolts, and thresholds and hysteresis in thousandths of it
 /// (IEC 61000-4-30:2015, 5.4, 5.5).
 #[derive(Clone, Copy, Debug, PartialEq, Eq)]
@@ -38,25 +44,6 @@ pub struct Class {
     pub clear_swell: bool,
     pub below_interruption: bool,
     pub clear_interruption: bool,
-}
-
-// Thousandths of the declared voltage, in microvolts.
-fn microvolts(udin_mv: u64, thousandths: u32) -> u64
-    requires udin { udin_mv ≤ 1_000_000_000 }
-    requires part { thousandths ≤ 4000 }
-    ensures { result ≡ udin_mv * thousandths }
-{
-    udin_mv * u64::from(thousandths)
-}
-
-fn are_sound(settings: &Settings) -> bool
-    requires { IsInRange settings.now }
-    ensures { IsTrue result ↔ IsSound settings.now }
-{
-    let hysteresis = settings.hysteresis;
-    hysteresis >= 1
-        && settings.interruption + hysteresis < settings.dip
-        && settings.dip + 2 * hysteresis < settings.swell
 }
 
 impl Limits {
@@ -99,4 +86,23 @@ pub fn classify(limits: &Limits, value: u64) -> Class
         below_interruption: value < limits.interruption,
         clear_interruption: value >= limits.interruption_end,
     }
+}
+
+// Thousandths of the declared voltage, in microvolts.
+fn microvolts(udin_mv: u64, thousandths: u32) -> u64
+    requires udin { udin_mv ≤ MOST_UDIN }
+    requires part { thousandths ≤ 2 * MOST_THOUSANDTHS }
+    ensures { result ≡ udin_mv * thousandths }
+{
+    udin_mv * u64::from(thousandths)
+}
+
+fn are_sound(settings: &Settings) -> bool
+    requires { IsInRange settings.now }
+    ensures { IsTrue result ↔ IsSound settings.now }
+{
+    let hysteresis = settings.hysteresis;
+    hysteresis >= 1
+        && settings.interruption + hysteresis < settings.dip
+        && settings.dip + 2 * hysteresis < settings.swell
 }

@@ -5,11 +5,11 @@ use std::alloc::Global;
 use std::process::Abort;
 use std::test::Fail;
 
-// A place of a list: whether it begins and ends an event, its channel and its window.
-type Place = (bool, bool, u32, Window);
+// What a detector is fed at once: whether it begins and ends an event, its channel and its window.
+type Condition = (bool, bool, u32, Window);
 
 // A window of 24 samples.
-fn place(begins: bool, ends: bool, start: u64, channel: u32, value: u64) -> Place
+fn condition(begins: bool, ends: bool, start: u64, channel: u32, value: u64) -> Condition
     requires { start < 1000 }
 {
     let end = start + 24;
@@ -27,11 +27,16 @@ fn event(kind: Kind, start: u64, end: u64, channel: u32, value: u64, is_open: bo
     }
 }
 
-// What a detector gives over the places, finished at place 100.
-fn given(rt: &impl Abort, alloc: Global, kind: Kind, places: &[Place]) -> Result<Vec<Event>, Fail> {
+// What a detector gives over the conditions, finished at place 100.
+fn given(
+    rt: &impl Abort,
+    alloc: Global,
+    kind: Kind,
+    conditions: &[Condition],
+) -> Result<Vec<Event>, Fail> {
     let mut detector = Detector::new(kind);
     let mut events = Vec::new(alloc);
-    for (begins, ends, channel, window) in places {
+    for (begins, ends, channel, window) in conditions {
         assert!(rt; !(*begins && *ends));
         if let Some(event) = detector.step(*begins, *ends, *channel, *window) {
             events.push(event)?;
@@ -47,31 +52,31 @@ fn given(rt: &impl Abort, alloc: Global, kind: Kind, places: &[Place]) -> Result
 #[test]
 fn events_of_worked_lists(rt: HostRuntime) -> Result<(), Fail> {
     let never_ends = [
-        place(false, false, 0, 0, 230),
-        place(true, false, 12, 0, 200),
-        place(false, false, 24, 0, 210),
-        place(false, false, 36, 1, 190),
+        condition(false, false, 0, 0, 230),
+        condition(true, false, 12, 0, 200),
+        condition(false, false, 24, 0, 210),
+        condition(false, false, 36, 1, 190),
     ];
     let ends_next = [
-        place(true, false, 0, 0, 10),
-        place(false, true, 12, 2, 5),
-        place(false, false, 24, 0, 1),
+        condition(true, false, 0, 0, 10),
+        condition(false, true, 12, 2, 5),
+        condition(false, false, 24, 0, 1),
     ];
     let two_in_a_row = [
-        place(true, false, 0, 0, 200),
-        place(false, true, 12, 0, 230),
-        place(true, false, 24, 0, 190),
-        place(false, true, 36, 0, 230),
+        condition(true, false, 0, 0, 200),
+        condition(false, true, 12, 0, 230),
+        condition(true, false, 24, 0, 190),
+        condition(false, true, 36, 0, 230),
     ];
-    let last_place = [
-        place(false, false, 0, 0, 230),
-        place(true, false, 12, 3, 260),
+    let last_window = [
+        condition(false, false, 0, 0, 230),
+        condition(true, false, 12, 3, 260),
     ];
     let never_begins = [
-        place(false, true, 0, 0, 230),
-        place(false, true, 12, 0, 230),
+        condition(false, true, 0, 0, 230),
+        condition(false, true, 12, 0, 230),
     ];
-    let rows: [(Kind, &[Place], &[Event]); 6] = [
+    let rows: [(Kind, &[Condition], &[Event]); 6] = [
         (Kind::Dip, &[], &[]),
         (
             Kind::Dip,
@@ -93,13 +98,13 @@ fn events_of_worked_lists(rt: HostRuntime) -> Result<(), Fail> {
         ),
         (
             Kind::Swell,
-            &last_place,
+            &last_window,
             &[event(Kind::Swell, 12, 100, 3, 260, true)],
         ),
         (Kind::Dip, &never_begins, &[]),
     ];
-    for (kind, places, events) in rows {
-        let found = given(&rt, rt.alloc(), kind, places)?;
+    for (kind, conditions, events) in rows {
+        let found = given(&rt, rt.alloc(), kind, conditions)?;
         assert!(rt; found.as_slice() == events);
     }
     Ok(())

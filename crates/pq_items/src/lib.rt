@@ -2,9 +2,11 @@
 #![tactic(auto)]
 
 pub use item::Item;
+pub use limits::MOST_TICK;
 pub use order::sort_items;
 
 mod item;
+mod limits;
 mod order;
 #[cfg(test)]
 mod tests;

@@ -68,5 +68,9 @@ fn items_in_order(rt: HostRuntime) {
         assert!(rt; items[i].compare(&wanted[i]) == Ordering::Equal, "at {i}");
     }
     assert_eq!(rt; items[0].end(), 348);
+    assert!(rt;
+        items[1].tick() == Some(1709294410) && items[1].count() == 499 && items[1].has_mark()
+    );
+    assert!(rt; items[0].tick().is_none() && items[0].count() == 0 && !items[0].has_mark());
     assert!(rt; basic(1, 230).compare(&basic(1, 231)) == Ordering::Less);
 }

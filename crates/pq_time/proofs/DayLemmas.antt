@@ -1,15 +1,18 @@
 -- Day numbers: their range in the years that are written, and the date that a day number shows.
-use Rattle.std.proofs.Common.{◌≡◌, ℕ, zero, suc, Bool, true, false, cond, nat_lt, add-zero, subst, ap, ◌∙◌, ◌+◌, ◌-◌, ◌<◌, ◌≤◌, refl, arith, rules, pos, neg_ℤ, ◌+ℤ◌, ◌≤ℤ◌}
-use Rattle.std.proofs.lemmas.Bool.{ltb-true, ltb-false}
+use Rattle.std.proofs.Common.{◌≡◌, ℕ, Bool, true, false, Option, Some, None, nat_lt, unwrap_or, subst, ◌+◌, ◌-◌, ◌<◌, ◌≤◌, refl, inl, inr, arith, rules, pos, neg_ℤ, ◌≤ℤ◌}
+use Rattle.std.proofs.lemmas.Bool.{cases_lt, lt-ltb, ltb-true, ltb-false}
 use Rattle.pq_time.specs.Written.{CivilDate}
-use Rattle.pq_time.specs.Printed.{date_in_year, date_from_year}
+use Rattle.pq_time.specs.Moment.{day_number}
+use Rattle.pq_time.specs.Printed.{date_at, date_in_year, days_before_year}
 use Rattle.jiff_core.specs.declared.civil.date.Date.{Date}
-use Rattle.jiff_core.specs.Calendar.{day_count, days_in_month, days_in_year, IsCivilDate, IsBetween}
+use Rattle.jiff_core.specs.Calendar.{day_count, days_in_year, days_of_months, IsCivilDate, IsBetween}
 use Rattle.jiff_core.specs.Date.{epoch_day}
-use Rattle.jiff_core.proofs.CalendarLemmas.{days_from_civil-day_count, day_count-lt_year, day_count-last_of_year, day_count-next_year, day_count-next_month, day_count-day}
+use Rattle.jiff_core.proofs.CalendarLemmas.{days_from_civil-day_count, days_of_months-zero, days_of_months_all, days_of_months_more, day_count-day_of_year, day_count-lt_year, day_count-last_of_year, day_count-next_year}
 use Rattle.jiff_core.proofs.DateLemmas.{civil, epoch_day_injective}
 use Rattle.jiff_core.proofs.MarchLemmas.{day_count-early}
 use Rattle.jiff_core.proofs.SignedLemmas.{signed_arith}
+use Rattle.pq_words.specs.First.{Nowhere, IsFirst, first_between}
+use Rattle.pq_words.proofs.FirstLaws.{first_between_is}
 
 day_count_1900 : day_count (pos 1900) 1 1 ≡ 4_346_386
 day_count_1900 = day_count-early (pos 1900) 11899 1 1 refl (omega arith) (omega arith) (omega arith)
@@ -18,112 +21,151 @@ day_count_2200 : day_count (pos 2200) 1 1 ≡ 4_455_959
 day_count_2200 = day_count-early (pos 2200) 12199 1 1 refl (omega arith) (omega arith) (omega arith)
 
 last_of_1899 : day_count (pos 1899) 12 31 + 1 ≡ 4_346_386
-last_of_1899 = omega (arith, day_count_1900, day_count-last_of_year (pos 1899),
-    day_count-next_year (pos 1899) (pos 1900) (search rules) refl)
+last_of_1899 = omega (
+  arith,
+  day_count_1900,
+  day_count-last_of_year (pos 1899),
+  day_count-next_year (pos 1899) (pos 1900) (search rules) refl,
+)
 
 -- a date from 1900 to 2199
 pub written_day : (d : Date) → pos 1900 ≤ℤ d.year → d.year ≤ℤ pos 2199 →
     IsBetween (neg_ℤ (pos 25_567)) (pos 84_005) (epoch_day d)
 written_day d from until =
     let after : day_count (pos 1899) 12 31 < day_count d.year d.month d.day =
-        day_count-lt_year (pos 1899) 12 31 d.year d.month d.day (search rules) d.day_in.0
-        (omega (arith, signed_arith)) in
+    day_count-lt_year (pos 1899) 12 31 d.year d.month d.day (search rules) d.day_in.0
+    (omega (arith, signed_arith)) in
     let before : day_count d.year d.month d.day < day_count (pos 2200) 1 1 =
-        day_count-lt_year d.year d.month d.day (pos 2200) 1 1 (civil d) (omega arith)
-        (omega (arith, signed_arith)) in
+    day_count-lt_year d.year d.month d.day (pos 2200) 1 1 (civil d) (omega arith)
+    (omega (arith, signed_arith)) in
     omega (arith, signed_arith, days_from_civil-day_count, day_count_2200, last_of_1899)
 
-day_count_1600 : day_count (pos 1600) 1 1 ≡ 4_236_813
-day_count_1600 = day_count-early (pos 1600) 11599 1 1 refl (omega arith) (omega arith) (omega arith)
+-- ---- the date of a day
+
+-- the days before a year, by the calendar
+days_before_year_is : (year : ℕ) → 1 ≤ year → days_before_year year + 3_652_791 ≡ day_count (pos year) 1 1
+days_before_year_is year some =
+    let early = day_count-early (pos year) (year + 9999) 1 1 (omega (arith, signed_arith)) (omega arith)
+    (omega arith) (omega arith) in
+    omega (arith, early, some)
+
+-- a year more
+days_of_year : (year : ℕ) → 1 ≤ year → days_before_year (year + 1) ≡ days_before_year year
+    + days_in_year (pos year)
+days_of_year year some =
+    let next = day_count-next_year (pos year) (pos (year + 1)) (omega (arith, signed_arith))
+    (omega (arith, signed_arith)) in
+    omega (arith, days_before_year_is year some, days_before_year_is (year + 1) (omega arith), next)
 
 -- a date of the calendar that has so many days before it
-record IsDay (count : ℕ) (d : CivilDate) : Type 0 where
-  civil_date : IsCivilDate (pos d.year) d.month d.day
-  counted : day_count (pos d.year) d.month d.day ≡ count
+pub record IsDay (count : ℕ) (d : CivilDate) : Type 0 where
+  pub civil_date : IsCivilDate (pos d.year) d.month d.day
+  pub counted : day_count (pos d.year) d.month d.day ≡ count
 
-in_month : (year month n : ℕ) → year ≤ 9999 → 1 ≤ month → month ≤ 12 → n < days_in_month (pos year) month →
-    IsDay (day_count (pos year) month 1 + n) (record { year = year; month = month; day = n + 1 })
-in_month year month n short low high inside = record {
-  civil_date = ((omega (arith, signed_arith, short), omega (arith, signed_arith, short)), (low, high),
-      (omega arith, omega (arith, inside)));
-  counted = omega (arith, day_count-day (pos year) month (n + 1) 1 (omega arith) (omega arith));
-}
+is_false : (b : Bool) → (b ≡ true → ⊥) → b ≡ false
+is_false true h = absurd (h refl)
+is_false false h = refl
 
--- the walk over the months of a year
-in_year : (months year month n : ℕ) → year ≤ 9999 → 1 ≤ month → month + months ≡ 12 →
-    day_count (pos year) month 1 + n < day_count (pos year) 1 1 + days_in_year (pos year)
-    → IsDay (day_count (pos year) month 1 + n) (date_in_year months year month n)
-in_year zero year month n short low whole inside =
-    let last : month ≡ 12 = omega (arith, whole) in
-    let end : day_count (pos year) month 1 + 31 ≡ day_count (pos year) 1 1 + days_in_year (pos year) =
-    ap (λ m. day_count (pos year) m 1 + 31) last ∙ omega
-        (arith, day_count-last_of_year (pos year), day_count-day (pos year) 12 31 1 (omega arith)
-        (omega arith)) in
-    let long : days_in_month (pos year) month ≡ 31 = ap (days_in_month (pos year)) last in
-    in_month year month n short low (omega (arith, last)) (omega (arith, end, long, inside))
-in_year (suc months) year month n short low whole inside =
-    at (nat_lt n (days_in_month (pos year) month)) refl
-    (λ left enough. in_year months year (month + 1) left short (omega arith) (omega (arith, whole)) enough)
+-- what grows past n at the first place that passes has not done so before it
+reached : (test : ℕ → Bool) (f : ℕ → ℕ) (n low k : ℕ) →
+    ((i : ℕ) → low ≤ i → test i ≡ false → f (i + 1) ≤ n) → f low ≤ n → low ≤ k → Nowhere test low k → f k ≤ n
+reached test f n low k step from later none =
+    elim (cases_lt low k) [
+      | inl less ↦
+          let back : k - 1 + 1 ≡ k = omega (arith, less) in
+          let fails : test (k - 1) ≡ false = is_false (test (k - 1)) (none (k - 1) (omega (arith, less))
+          (omega (arith, less))) in
+          subst (λ i. f i ≤ n) back (step (k - 1) (omega (arith, less)) fails)
+      | inr rest ↦ let same : low ≡ k = omega (arith, rest, later) in subst (λ i. f i ≤ n) same from
+    ]
+
+-- the date in a year of which so many days have passed
+in_year : (year n : ℕ) → year ≤ 9999 → n < days_in_year (pos year) →
+    IsDay (day_count (pos year) 1 1 + n) (date_in_year year n)
+in_year year n short inside = at (first_between test 1 13) (first_between_is test 1 13)
   where
-    at : (b : Bool) → nat_lt n (days_in_month (pos year) month) ≡ b
-        → ((left : ℕ) → day_count (pos year) (month + 1) 1 + left < day_count (pos year) 1 1 + days_in_year
-            (pos year) → IsDay (day_count (pos year) (month + 1) 1 + left)
-            (date_in_year months year (month + 1) left))
-        → IsDay (day_count (pos year) month 1 + n) (cond b
-            (record { year = year; month = month; day = n + 1 })
-            (date_in_year months year (month + 1) (n - days_in_month (pos year) month)))
-    at true is later = in_month year month n short low (omega (arith, whole)) (omega (arith, is, ltb-true))
-    at false is later =
-        let next = day_count-next_month (pos year) month low in
-        let past : days_in_month (pos year) month ≤ n = omega (arith, is, ltb-false) in
-        let same : day_count (pos year) (month + 1) 1 + (n - days_in_month (pos year) month)
-            ≡ day_count (pos year) month 1 + n = omega (arith, next, past) in
-        subst (λ count. IsDay count (date_in_year months year (month + 1)
-            (n - days_in_month (pos year) month))) same
-        (later (n - days_in_month (pos year) month) (omega (arith, same, inside)))
+    test : ℕ → Bool
+    test month = nat_lt n (days_of_months (pos year) month)
 
--- the walk over years
-from_year : (years year n : ℕ) → year + years ≤ 9999 →
-    day_count (pos year) 1 1 + n < day_count (pos (year + years)) 1 1 + days_in_year (pos (year + years))
-    → IsDay (day_count (pos year) 1 1 + n) (date_from_year years year n)
-from_year zero year n short inside = in_year 11 year 1 n (omega (arith, short)) (omega arith) refl
-    (rw add-zero at inside)
-from_year (suc years) year n short inside =
-    at (nat_lt n (days_in_year (pos year))) refl
-    (λ left enough. from_year years (year + 1) left (omega (arith, short)) enough)
+    made : ℕ → CivilDate
+    made month = record { year = year; month = month; day = n - days_of_months (pos year) (month - 1) + 1 }
+
+    at : (o : Option ℕ) → IsFirst test 1 13 o → IsDay (day_count (pos year) 1 1 + n) (made (unwrap_or o 1))
+    at None none =
+        let last : n < days_of_months (pos year) 12 = omega (arith, days_of_months_all (pos year), inside) in
+        absurd (none 12 (omega arith) (omega arith) (lt-ltb n (days_of_months (pos year) 12) last))
+    at (Some m) first =
+        let past : days_of_months (pos year) (m - 1) ≤ n =
+        reached test (λ k. days_of_months (pos year) (k - 1)) n 1 m
+        (λ i from fails. let same : i ≡ i + 1 - 1 = omega arith in
+        subst (λ k. days_of_months (pos year) k ≤ n) same
+        (ltb-false n (days_of_months (pos year) i) fails))
+        (omega (arith, days_of_months-zero (pos year))) first.after first.none_before in
+        let less : n < days_of_months (pos year) m = ltb-true n (days_of_months (pos year) m) first.passes in
+        let more = days_of_months_more (pos year) m first.after in
+        let count = day_count-day_of_year (pos year) m (n - days_of_months (pos year) (m - 1) + 1)
+        (omega arith) in
+        record {
+          civil_date = (
+            (omega (arith, signed_arith, short), omega (arith, signed_arith, short)),
+            (first.after, omega (arith, first.below)),
+            (omega arith, omega (arith, past, less, more)),
+          );
+          counted = omega (arith, count, past);
+        }
+
+-- the date n days after 1 January of the year 1
+pub on_day : (n : ℕ) → 584_022 ≤ n → n < 876_216 → IsDay (n + 3_652_791) (date_at n)
+on_day n from until = at (first_between test 1600 2400) (first_between_is test 1600 2400)
   where
-    at : (b : Bool) → nat_lt n (days_in_year (pos year)) ≡ b
-        → ((left : ℕ) → day_count (pos (year + 1)) 1 1 + left < day_count (pos (year + 1 + years)) 1 1 +
-            days_in_year (pos (year + 1 + years)) → IsDay (day_count (pos (year + 1)) 1 1 + left)
-            (date_from_year years (year + 1) left))
-        → IsDay (day_count (pos year) 1 1 + n) (cond b (date_in_year 11 year 1 n)
-            (date_from_year years (year + 1) (n - days_in_year (pos year))))
-    at true is later = in_year 11 year 1 n (omega (arith, short)) (omega arith) refl
-        (omega (arith, is, ltb-true))
-    at false is later =
-        let next = day_count-next_year (pos year) (pos (year + 1)) (omega (arith, signed_arith))
-            (omega (arith, signed_arith)) in
-        let past : days_in_year (pos year) ≤ n = omega (arith, is, ltb-false) in
-        let same : day_count (pos (year + 1)) 1 1 + (n - days_in_year (pos year))
-            ≡ day_count (pos year) 1 1 + n = omega (arith, next, past) in
-        let on : year + suc years ≡ year + 1 + years = omega arith in
-        let end : day_count (pos (year + suc years)) 1 1 + days_in_year (pos (year + suc years))
-            ≡ day_count (pos (year + 1 + years)) 1 1 + days_in_year (pos (year + 1 + years)) =
-            ap (λ y. day_count (pos y) 1 1 + days_in_year (pos y)) on in
-        subst (λ count. IsDay count (date_from_year years (year + 1) (n - days_in_year (pos year)))) same
-        (later (n - days_in_year (pos year)) (omega (arith, same, inside, end)))
+    test : ℕ → Bool
+    test year = nat_lt n (days_before_year (year + 1))
 
-day_count_2399 : day_count (pos 2399) 1 1 ≡ 4_528_642
-day_count_2399 = day_count-early (pos 2399) 12398 1 1 refl (omega arith) (omega arith) (omega arith)
+    made : ℕ → CivilDate
+    made year = date_in_year year (n - days_before_year year)
 
--- the date that a moment of an i64 shows is the date of its day number
-pub shows_day : (d : Date) (n : ℕ) → n < 291_827 → epoch_day d +ℤ pos 135_140 ≡ pos n
-    → (d.year ≡ pos (date_from_year 799 1600 n).year) × (d.month ≡ (date_from_year 799 1600 n).month) ×
-        (d.day ≡ (date_from_year 799 1600 n).day)
-shows_day d n few is =
-    let shown = from_year 799 1600 n (omega arith) (omega (arith, day_count_1600, day_count_2399, few)) in
-    let c : CivilDate = date_from_year 799 1600 n in
-    let other : Date = record { year = pos c.year; month = c.month; day = c.day; year_in = shown.civil_date.0;
-        month_in = shown.civil_date.1; day_in = shown.civil_date.2 } in
-    epoch_day_injective d other (omega (arith, signed_arith, is, shown.counted, days_from_civil-day_count,
-        day_count_1600))
+    at : (o : Option ℕ) → IsFirst test 1600 2400 o → IsDay (n + 3_652_791) (made (unwrap_or o 1600))
+    at None none = absurd (none 2399 (omega arith) (omega arith) (lt-ltb n (days_before_year 2400) until))
+    at (Some year) first =
+        let some : 1 ≤ year = omega (arith, first.after) in
+        let past : days_before_year year ≤ n =
+        reached test days_before_year n 1600 year
+        (λ i after fails. ltb-false n (days_before_year (i + 1)) fails) from first.after
+        first.none_before in
+        let less : n < days_before_year (year + 1) = ltb-true n (days_before_year (year + 1)) first.passes in
+        let inside : n - days_before_year year < days_in_year (pos year) =
+        omega (arith, past, less, days_of_year year some) in
+        let count : day_count (pos year) 1 1 + (n - days_before_year year) ≡ n + 3_652_791 =
+        omega (arith, past, days_before_year_is year some) in
+        subst (λ c. IsDay c (made year)) count
+        (in_year year (n - days_before_year year) (omega (arith, first.below)) inside)
+
+-- two dates of one day number are one
+pub one_date : (d e : CivilDate) → IsCivilDate (pos d.year) d.month d.day →
+    IsCivilDate (pos e.year) e.month e.day → day_number d ≡ day_number e → d ≡ e
+one_date d e there other same =
+    let dated : (c : CivilDate) → IsCivilDate (pos c.year) c.month c.day → Date = λ c h. record {
+      year = pos c.year;
+      month = c.month;
+      day = c.day;
+      year_in = h.0;
+      month_in = h.1;
+      day_in = h.2;
+    } in
+    let parts = epoch_day_injective (dated d there) (dated e other) same in
+    let year : d.year ≡ e.year = omega (arith, signed_arith, parts.0) in
+    λ i. record { year = year i; month = parts.1 i; day = parts.2 i }
+
+-- a date of jiff that has the day number of a date is that date
+pub same_date : (d : Date) (e : CivilDate) → IsCivilDate (pos e.year) e.month e.day → epoch_day d
+    ≡ day_number e → (d.year ≡ pos e.year) × (d.month ≡ e.month) × (d.day ≡ e.day)
+same_date d e there same =
+    let other : Date = record {
+      year = pos e.year;
+      month = e.month;
+      day = e.day;
+      year_in = there.0;
+      month_in = there.1;
+      day_in = there.2;
+    } in
+    epoch_day_injective d other same

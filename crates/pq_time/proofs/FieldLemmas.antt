@@ -14,8 +14,11 @@ use Rattle.std.proofs.lemmas.List.Sums.{fails_before_first}
 use Rattle.pq_words.specs.Text.{parted_at}
 
 found : (b : Bool) (n len i : ℕ) → nat_lt n len ≡ b → cond b (Some n) None ≡ Some i → (n < len) × (n ≡ i)
-found true n len i is e = (let less : n < len = omega (arith, ltb-true) in less, let same : n ≡ i = cc in
-    same)
+found true n len i is e = (
+  let less : n < len = omega (arith, ltb-true) in less,
+  let same : n ≡ i = cc in
+      same,
+)
 found false n len i is e = absurd (let bad : ⊥ = cc in bad)
 
 not_found : (b : Bool) (n len : ℕ) → nat_lt n len ≡ b → cond b (Some n) None ≡ None → len ≤ n
@@ -29,7 +32,7 @@ pub parts_cut : (at : ℕ) (text : List ℕ) (i : ℕ) → position (λ b. b == 
 parts_cut at text i e =
     let p : ℕ → Bool = λ b. b == at in
     let f = found (nat_lt (position_or_len p text) (length text)) (position_or_len p text) (length text) i
-        refl e in
+    refl e in
     slice_split_first p text 0 f.0
     ∙ ap (λ n. take n text ∷ slice_split p (drop (n + 1) text)) f.1
     ∙ ap (λ rest. take i text ∷ slice_split p rest) (sym (take_rest text (i + 1)))
@@ -39,7 +42,7 @@ pub one_part : (at : ℕ) (text : List ℕ) → position (λ b. b == at) text �
 one_part at text e =
     let p : ℕ → Bool = λ b. b == at in
     let past = not_found (nat_lt (position_or_len p text) (length text)) (position_or_len p text)
-        (length text) refl e in
+    (length text) refl e in
     slice_split_none p text (λ k d inside. fails_before_first p text k d (omega (arith, inside, past)))
 
 -- a text has a part at least

@@ -1,12 +1,12 @@
 -- Sample times do not fall, so a place is told by its neighbour, and by a quotient.
-use Rattle.std.proofs.Common.{◌≡◌, ◌↔◌, ℕ, ◌+◌, ◌*◌, ◌/◌, ◌^◌, ◌<◌, ◌≤◌, min, ℤ, pos, ◌+ℤ◌, ◌-ℤ◌, ◌≤ℤ◌, ◌<ℤ◌, unsigned_abs, IsTrue, true, false, Some, None, unwrap_or, sym, ◌∙◌, ap, arith, inl, inr}
+use Rattle.std.proofs.Common.{◌≡◌, ◌↔◌, ℕ, ◌+◌, ◌*◌, ◌/◌, ◌^◌, ◌<◌, ◌≤◌, min, ℤ, pos, ◌+ℤ◌, ◌-ℤ◌, ◌≤ℤ◌, ◌<ℤ◌, unsigned_abs, Bool, IsTrue, true, false, refl, Some, None, unwrap_or, sym, ◌∙◌, ap, arith, inl, inr}
 use Rattle.std.specs.Int.{div_ceil}
 use Rattle.std.specs.Prelude.{int_le}
 use Rattle.std.proofs.Math.Nat.{le-div_iff_mul-le, div-le_of_le-mul}
 use Rattle.std.proofs.lemmas.Bool.{cases_lt}
 use Rattle.std.proofs.lemmas.Int.{ints}
 use Rattle.pq_time.specs.declared.clock.Clock.{Clock}
-use Rattle.pq_time.specs.Time.{time_of, is_taken_by, place_of}
+use Rattle.pq_time.specs.Time.{TellsPlaces, time_of, is_taken_by, place_of}
 use Rattle.pq_words.specs.First.{IsFirst}
 use Rattle.pq_words.proofs.FirstLaws.{first_by_neighbour, first_between_only}
 
@@ -23,7 +23,7 @@ unfolding time_of
 taken_stays clock moment i j h is =
     let product : i * 10 ^ 15 ≤ j * 10 ^ 15 = omega (arith, h) in
     later_stays moment clock.t0 (i * 10 ^ 15 / clock.rate) (j * 10 ^ 15 / clock.rate)
-        (div_rises (i * 10 ^ 15) (j * 10 ^ 15) clock.rate product) is
+    (div_rises (i * 10 ^ 15) (j * 10 ^ 15) clock.rate product) is
 
 -- a place that is taken at the moment or after it, while the one before it is not, is the moment's place
 pub place_by_neighbour : (clock : Clock) (moment : ℤ) (n k : ℕ) → k + 1 < n → is_taken_by clock moment k
@@ -32,7 +32,16 @@ pub place_by_neighbour : (clock : Clock) (moment : ℤ) (n k : ℕ) → k + 1 < 
 unfolding place_of
 place_by_neighbour clock moment n k inside before at =
     ap (λ o. unwrap_or o n) (first_by_neighbour (is_taken_by clock moment) 0 n k (taken_stays clock moment)
-        (omega arith) inside before at)
+    (omega arith) inside before at)
+
+-- so told by its neighbour
+pub tells_places : TellsPlaces
+tells_places clock moment n k inside before at = place_by_neighbour clock moment n k inside
+    (is_false (is_taken_by clock moment k) before) at
+  where
+    is_false : (b : Bool) → (b ≡ true → ⊥) → b ≡ false
+    is_false true h = absurd (h refl)
+    is_false false h = refl
 
 -- where the places taken at the moment or after it are those from a place on, that place is the moment's, or
 -- the end
@@ -50,13 +59,13 @@ place_from clock moment n least h =
           } in
           let bounded : least ≡ min least n = omega (arith, inside) in
           ap (λ o. unwrap_or o n) (sym (first_between_only (is_taken_by clock moment) 0 n (Some least) first))
-              ∙ bounded
+          ∙ bounded
       | inr past ↦
           let none : IsFirst (is_taken_by clock moment) 0 n None =
-              λ k from below given. absurd (omega (arith, (h k).0 given, below, past)) in
+          λ k from below given. absurd (omega (arith, (h k).0 given, below, past)) in
           let bounded : n ≡ min least n = omega (arith, past) in
           ap (λ o. unwrap_or o n) (sym (first_between_only (is_taken_by clock moment) 0 n None none))
-              ∙ bounded
+          ∙ bounded
     ]
 
 -- every place is taken at the first moment or after it
@@ -65,7 +74,7 @@ unfolding time_of
 place_at_start clock moment n early =
     let bounded : 0 ≡ min 0 n = omega arith in
     bounded ∙ sym (place_from clock moment n 0 (λ k.
-        ((λ _. omega arith), λ _. taken (k * 10 ^ 15 / clock.rate))))
+    ((λ _. omega arith), λ _. taken (k * 10 ^ 15 / clock.rate))))
   where
     taken : (m : ℕ) → int_le moment (clock.t0 +ℤ pos m) ≡ true
     taken m = grind (arith, ints)
@@ -88,10 +97,11 @@ place_passed clock moment n passed some later is =
     (λ k.
     let by_time = after_by moment clock.t0 passed (k * 10 ^ 15 / clock.rate) later is in
     let by_product : (passed ≤ k * 10 ^ 15 / clock.rate) ↔ (passed * clock.rate ≤ k * 10 ^ 15) =
-        le-div_iff_mul-le some in
-    let by_place = ceil_iff (passed * clock.rate) k in
-    ((λ taken. by_place.0 (by_product.0 (by_time.0 taken))),
-        λ from. by_time.1 (by_product.1 (by_place.1 from)))))
+    le-div_iff_mul-le some in
+    let by_place = ceil_iff (passed * clock.rate) k in (
+      (λ taken. by_place.0 (by_product.0 (by_time.0 taken))),
+      λ from. by_time.1 (by_product.1 (by_place.1 from)),
+    )))
 
 -- the nanoseconds from the first sample to the one at a place
 pub passed_small : (i rate : ℕ) → i ≤ 50_000_000 → 800_000_000 ≤ rate →

@@ -53,7 +53,7 @@ some_more : (a : ℤ) (k p : ℕ) → ((a +ℤ pos k) *ℤ pos p) ≡ ((a *ℤ p
 some_more a k p =
     let parts : up (a +ℤ pos k) + down a ≡ down (a +ℤ pos k) + up a + k = omega (arith, signed_arith) in
     let product : (up (a +ℤ pos k) + down a) * p ≡ (down (a +ℤ pos k) + up a + k) * p =
-        ap (λ x. x * p) parts in
+    ap (λ x. x * p) parts in
     omega (arith, signed_arith, product)
 
 -- as many before zero
@@ -140,8 +140,10 @@ module _ (clock : Clock) (n p : ℕ) (some : 0 < p) where
 
 at_least_zero_is : (z : ℤ) (k : ℕ) → (k < at_least_zero z) ↔ (pos k <ℤ z)
 at_least_zero_is (pos m) k = ((λ h. omega (arith, signed_arith, h)), λ h. omega (arith, signed_arith, h))
-at_least_zero_is (negsuc m) k = ((λ h. absurd (omega (arith, h))),
-    λ h. absurd (omega (arith, signed_arith, h)))
+at_least_zero_is (negsuc m) k = (
+  (λ h. absurd (omega (arith, h))),
+  λ h. absurd (omega (arith, signed_arith, h)),
+)
 
 -- what is at or after another number lies some steps after it
 steps_after : (a b : ℤ) → a ≤ℤ b → (k : ℕ) × (b ≡ (a +ℤ pos k))
@@ -161,9 +163,9 @@ ticks_exact clock n p some second =
           let j : ℤ = first +ℤ pos k in
           let within = (at_least_zero_is ((last -ℤ first) +ℤ pos 1) k).0 inside in
           let is : second ≡ (j *ℤ pos p) = sym there.2 ∙ steps_at low p count k second inside
-              ∙ sym (some_more first k p) in
+          ∙ sym (some_more first k p) in
           let tick = periods_tick clock n p some j (omega (arith, signed_arith))
-              (omega (arith, signed_arith, within)) in
+          (omega (arith, signed_arith, within)) in
           subst (λ s. IsTick clock n p s) (sym is) tick,
       λ tick.
           let j : ℤ = int_div_euclid second (pos p) in
@@ -172,9 +174,9 @@ ticks_exact clock n p some second =
           let after = steps_after first j within.0 in
           let k = after.0 in
           let inside : k < count = (at_least_zero_is ((last -ℤ first) +ℤ pos 1) k).1
-              (omega (arith, signed_arith, within, after.1)) in
+          (omega (arith, signed_arith, within, after.1)) in
           let there : get_or (steps_from low p count) k second ≡ second = steps_at low p count k second inside
-              ∙ sym (some_more first k p) ∙ ap (λ x. x *ℤ pos p) (sym after.1) ∙ sym is in
+          ∙ sym (some_more first k p) ∙ ap (λ x. x *ℤ pos p) (sym after.1) ∙ sym is in
           (k, omega (arith, inside, steps_length low p count), there),
     )
 
@@ -190,7 +192,7 @@ few_ticks clock n p long few fast =
     let passed = passed_small n clock.rate few fast in
     let more = some_more first 6250 (p * 10 ^ 9) in
     let near : last ≤ℤ (first +ℤ pos 6250) = fewer last (first +ℤ pos 6250) (p * 10 ^ 9) (omega (arith, long))
-        (omega (arith, signed_arith, low.0, high.0, passed, more, long)) in
+    (omega (arith, signed_arith, low.0, high.0, passed, more, long)) in
     let count = at_least_zero ((last -ℤ first) +ℤ pos 1) in
     let small : count ≤ 6251 = at ((last -ℤ first) +ℤ pos 1) (omega (arith, signed_arith, near)) in
     omega (arith, steps_length (first *ℤ pos p) p count, small)
@@ -254,7 +256,7 @@ seconds_are first p short within =
 -- the last second of so many periods
 pub ends_within : (first last : ℤ) (p : ℕ) → p ≤ 7200 → IsWithin (10 ^ 9) first → IsWithin (10 ^ 9) last
     → (neg_ℤ (pos (10 ^ 14)) ≤ℤ (first *ℤ pos p)) × (((first *ℤ pos p) +ℤ pos
-        (at_least_zero ((last -ℤ first) +ℤ pos 1) * p)) ≤ℤ pos (10 ^ 14))
+    (at_least_zero ((last -ℤ first) +ℤ pos 1) * p)) ≤ℤ pos (10 ^ 14))
 ends_within first last p short a b =
     let low = multiples_rise (neg_ℤ (pos (10 ^ 9))) first p a.0 in
     (omega (arith, signed_arith, low), at ((last -ℤ first) +ℤ pos 1) refl)

@@ -2,7 +2,7 @@
 use Rattle.std.proofs.Common.{◌≡◌, ◌≢◌, ℕ, ◌+◌, ◌-◌, ◌*◌, ◌^◌, ◌<◌, ◌≤◌, List, [], ◌∷◌, length, None, refl, sym, ◌∙◌, ap, arith, lit<}
 use Rattle.std.proofs.Math.Nat.{mul-lt-mul_of_pos_right, one-le-pow}
 use Rattle.std.proofs.lemmas.Nat.{pow-add}
-use Rattle.pq_time.specs.Written.{date_of, date_of_parts, time_of, time_of_parts, second_of, minutes_of_parts}
+use Rattle.pq_time.specs.Written.{date_of, date_of_parts, clock_time_of, time_of_parts, second_of, minutes_of_parts}
 use Rattle.pq_words.specs.Text.{Text, parted_at}
 
 no_date_parts : (parts : List Text) → length parts ≢ 3 → date_of_parts parts ≡ None
@@ -25,8 +25,8 @@ no_time_parts (a ∷ b ∷ c ∷ []) h = absurd (h refl)
 no_time_parts (a ∷ b ∷ c ∷ d ∷ parts) h = refl
 
 -- nor a time
-pub no_time : (text : Text) → length (parted_at 58 text) ≢ 3 → time_of text ≡ None
-unfolding time_of
+pub no_time : (text : Text) → length (parted_at 58 text) ≢ 3 → clock_time_of text ≡ None
+unfolding clock_time_of
 no_time text h = no_time_parts (parted_at 58 text) h
 
 -- three parts or more are no seconds

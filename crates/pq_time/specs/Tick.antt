@@ -1,7 +1,7 @@
 -- The subject: ticks, the UTC moments at which a clock interval of 10 s, 10 min or 2 h begins (4.4, 4.5,
 -- 5.1). Which ticks a recording has is profile.
 -- Sections are those of IEC 61000-4-30:2015; "profile" marks a choice of this project.
-use Rattle.std.specs.Prelude.{◌≡◌, ◌⊎◌, ◌↔◌, ℕ, ◌*◌, ◌^◌, List, ℤ, pos, negsuc, neg_ℤ, ◌+ℤ◌, ◌-ℤ◌, ◌*ℤ◌, ◌≤ℤ◌, Contains}
+use Rattle.std.specs.Prelude.{◌≡◌, ◌⊎◌, ◌↔◌, ℕ, ◌*◌, ◌^◌, ◌≤◌, List, ℤ, pos, negsuc, neg_ℤ, ◌+ℤ◌, ◌-ℤ◌, ◌*ℤ◌, ◌≤ℤ◌, Contains}
 use Rattle.std.specs.Int.{int_div_euclid, int_rem_euclid}
 use Rattle.pq_time.specs.declared.clock.Clock.{Clock}
 use Rattle.pq_time.specs.Time.{time_of}
@@ -39,9 +39,21 @@ last_period moment period = int_div_euclid moment (pos (period * 10 ^ 9))
 abbrev pub first_period : ℤ → ℕ → ℤ
 first_period moment period = neg_ℤ (last_period (neg_ℤ moment) period)
 
+-- how many whole numbers there are from one to another, both included
+abbrev pub count_between : ℤ → ℤ → ℕ
+count_between first last = at_least_zero ((last -ℤ first) +ℤ pos 1)
+
+-- the seconds of whole periods, from so many periods to so many, both included
+abbrev pub seconds_between : ℤ → ℤ → ℕ → List ℤ
+seconds_between first last period = steps_from (first *ℤ pos period) period (count_between first last)
+
 -- the ticks of a period, as UTC seconds in rising order
 unfoldable pub ticks : Clock → ℕ → ℕ → List ℤ
 ticks clock n period =
-    let first = first_period clock.t0 period in
-    let count = at_least_zero ((last_period (time_of clock n) period -ℤ first) +ℤ pos 1) in
-    steps_from (first *ℤ pos period) period count
+    seconds_between (first_period clock.t0 period) (last_period (time_of clock n) period) period
+
+-- the ticks that are left, by the first of them, their number and their period: at most two hours apart, and
+-- at most 10^14 seconds from 1970
+abbrev pub AreLeft : ℤ → ℕ → ℕ → Type 0
+AreLeft next left period = (period ≤ 7200) × (neg_ℤ (pos (10 ^ 14)) ≤ℤ next) ×
+    ((next +ℤ pos (left * period)) ≤ℤ pos (10 ^ 14))

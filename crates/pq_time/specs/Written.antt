@@ -61,8 +61,13 @@ second_of _ = None
 -- the time of an hour, a minute, a second and its nanoseconds
 abbrev pub time_of_numbers : ℕ → ℕ → ℕ × ℕ → Option TimeOfDay
 time_of_numbers hour minute second =
-    where_passes is_time_of_day (record { hour = hour; minute = minute; second = second.0; nanosecond =
-        second.1 })
+    where_passes is_time_of_day (record {
+      hour = hour;
+      minute = minute;
+      second = second.0;
+      nanosecond =
+          second.1;
+    })
 
 -- hours, minutes and seconds of one or two digits each
 abbrev pub time_of_parts : List Text → Option TimeOfDay
@@ -73,8 +78,8 @@ time_of_parts (hh ∷ mm ∷ ss ∷ []) =
 time_of_parts _ = None
 
 -- a time, `hh:mm:ss` with an optional fraction
-unfoldable pub time_of : Text → Option TimeOfDay
-time_of text = time_of_parts (parted_at 58 text)
+unfoldable pub clock_time_of : Text → Option TimeOfDay
+clock_time_of text = time_of_parts (parted_at 58 text)
 
 -- hours up to 14 and minutes up to 59, as minutes
 abbrev pub minutes_of_numbers : ℕ → ℕ → Option ℕ
@@ -86,7 +91,7 @@ abbrev pub minutes_of_parts : List Text → Option ℕ
 minutes_of_parts (hours ∷ []) = option_and_then (λ h. minutes_of_numbers h 0) (digits_between 1 2 hours)
 minutes_of_parts (hours ∷ minutes ∷ []) =
     option_and_then (λ h. option_and_then (λ m. minutes_of_numbers h m) (digits_between 2 2 minutes))
-        (digits_between 1 2 hours)
+    (digits_between 1 2 hours)
 minutes_of_parts _ = None
 
 -- the minutes that a time code without its sign stands for

@@ -2,6 +2,8 @@
 ghost use Rattle.std.specs.Prelude.{◌≡◌, ◌≤◌};
 ghost use Rattle.pq_time.specs.Time.{IsClock, time_of, place_of};
 
+use pq_words::MOST_SAMPLES;
+
 // Nanoseconds in a second, times microhertz in a hertz.
 const NANOSECONDS_MICROHERTZ: u128 = 1_000_000_000_000_000;
 
@@ -18,7 +20,7 @@ impl Clock {
     /// The moment of the sample at place `i`, rounded down to a nanosecond: nanoseconds since 1970, UTC.
     pub fn time_of(&self, i: u64) -> i64
         requires clock { IsClock self.now }
-        requires place { i ≤ 50_000_000 }
+        requires place { i ≤ MOST_SAMPLES }
         ensures { result ≡ time_of self.now i }
     {
         let passed = u128::from(i) * NANOSECONDS_MICROHERTZ / u128::from(self.rate);
@@ -29,7 +31,7 @@ impl Clock {
     /// or after it, but at most `n`.
     pub fn place_of(&self, t: i64, n: u64) -> u64
         requires clock { IsClock self.now }
-        requires places { n ≤ 50_000_000 }
+        requires places { n ≤ MOST_SAMPLES }
         ensures value { result ≡ place_of self.now t n }
         ensures within { result ≤ n }
     {

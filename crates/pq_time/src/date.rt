@@ -1,11 +1,23 @@
 // A written date.
-ghost use Rattle.std.specs.Prelude.{◌≡◌, ◌≤◌, option_map, neg_ℤ, pos, IfSome};
-ghost use Rattle.jiff_core.specs.Calendar.{IsBetween};
-ghost use Rattle.pq_time.specs.Moment.{day_number};
+ghost use Rattle.std.specs.Prelude.{◌≡◌, ◌≤◌, option_map, IfSome};
+ghost use Rattle.pq_time.specs.Moment.{IsWrittenDay, day_number};
 ghost use Rattle.pq_time.specs.Written.{date_of, date_of_numbers};
 
 use crate::field::{digits_between, three_parts};
 use jiff::civil::Date;
+
+// The day number of a written date.
+#[tactic(auto, using(crate::proofs::WrittenLemmas::no_date), unfolding(crate::specs::Written::date_of))]
+pub(crate) fn read_date(text: &[u8]) -> Option<i64>
+    ensures value { result ≡ option_map day_number (date_of text.now) }
+    ensures within { IfSome result IsWrittenDay }
+{
+    let (day, month, year) = three_parts(text, b'/')?;
+    let day = digits_between(day, 1, 2)?;
+    let month = digits_between(month, 1, 2)?;
+    let year = digits_between(year, 4, 4)?;
+    day_number(day, month, year)
+}
 
 // The day number of a date, where the calendar has the day and the year is 1900 to 2199.
 fn day_number(day: u32, month: u32, year: u32) -> Option<i64>
@@ -13,7 +25,7 @@ fn day_number(day: u32, month: u32, year: u32) -> Option<i64>
     requires month { month ≤ 99 }
     requires year { year ≤ 9999 }
     ensures value { result ≡ option_map day_number (date_of_numbers day month year) }
-    ensures within { IfSome result (IsBetween (neg_ℤ (pos 25_567)) (pos 84_005)) }
+    ensures within { IfSome result IsWrittenDay }
 {
     if year < 1900 || year > 2199 {
         return None;
@@ -22,17 +34,4 @@ fn day_number(day: u32, month: u32, year: u32) -> Option<i64>
         Ok(date) => Some(i64::from(date.to_plain().to_unix_epoch_day())),
         Err(_) => None,
     }
-}
-
-// The day number of a written date.
-#[tactic(auto, using(crate::proofs::WrittenLemmas::no_date), unfolding(crate::specs::Written::date_of))]
-pub(crate) fn read_date(text: &[u8]) -> Option<i64>
-    ensures value { result ≡ option_map day_number (date_of text.now) }
-    ensures within { IfSome result (IsBetween (neg_ℤ (pos 25_567)) (pos 84_005)) }
-{
-    let (day, month, year) = three_parts(text, b'/')?;
-    let day = digits_between(day, 1, 2)?;
-    let month = digits_between(month, 1, 2)?;
-    let year = digits_between(year, 4, 4)?;
-    day_number(day, month, year)
 }

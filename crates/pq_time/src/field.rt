@@ -1,21 +1,14 @@
 // Parts of a field, and the numbers that digits write.
-ghost use Rattle.std.specs.Prelude.{◌≡◌, ◌≢◌, ◌≤◌, ◌<◌, ◌∷◌, ◌==◌, ◌^◌, [], length, position, OnSome, IfSome, IfNone, MatchOption};
+ghost use Rattle.std.specs.Prelude.{◌≡◌, ◌≢◌, ◌≤◌, ◌<◌, ◌∷◌, ◌==◌, ◌^◌, [], length, position, OnSome, IfSome, IfNone};
 ghost use Rattle.pq_words.specs.Text.{parted_at, digits_between};
-
-// The place of the first byte `at`.
-fn place(text: &[u8], at: u8) -> Option<usize>
-    ensures { result ≡ position (λ b. b == at) text.now }
-{
-    text.iter().position(|byte| *byte == at)
-}
 
 // The text before the first byte `at` and the text after it.
 pub(crate) fn cut(text: &[u8], at: u8) -> Option<(&[u8], &[u8])>
     ensures value { IfSome result (λ p. parted_at at text.now ≡ p.0.now ∷ parted_at at p.1.now) }
     ensures none { IfNone result (parted_at at text.now ≡ text.now ∷ []) }
 {
-    match place(text, at) {
-        Some(place) => Some((&text[..place], &text[place + 1..])),
+    match index_of(text, at) {
+        Some(index) => Some((&text[..index], &text[index + 1..])),
         None => None,
     }
 }
@@ -35,7 +28,8 @@ pub(crate) fn three_parts(text: &[u8], at: u8) -> Option<(&[u8], &[u8], &[u8])>
 
 // The text in one or two parts around a byte `at`, where there are no more.
 pub(crate) fn one_or_two_parts(text: &[u8], at: u8) -> Option<(&[u8], Option<&[u8]>)>
-    ensures value { IfSome result (λ p. MatchOption p.1 (parted_at at text.now ≡ p.0.now ∷ []) (λ q. parted_at at text.now ≡ p.0.now ∷ q.now ∷ [])) }
+    ensures one { IfSome result (λ p. IfNone p.1 (parted_at at text.now ≡ p.0.now ∷ [])) }
+    ensures two { IfSome result (λ p. IfSome p.1 (λ q. parted_at at text.now ≡ p.0.now ∷ q.now ∷ [])) }
     ensures none { IfNone result (3 ≤ length (parted_at at text.now)) }
 {
     let Some((first, rest)) = cut(text, at) else {
@@ -65,4 +59,11 @@ pub(crate) fn digits_between(text: &[u8], least: usize, most: usize) -> Option<u
         value = value * 10 + u32::from(*byte - b'0');
     }
     Some(value)
+}
+
+// The index of the first byte `at`.
+fn index_of(text: &[u8], at: u8) -> Option<usize>
+    ensures { result ≡ position (λ b. b == at) text.now }
+{
+    text.iter().position(|byte| *byte == at)
 }

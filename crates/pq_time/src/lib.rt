@@ -1,17 +1,20 @@
-//! Moments as they are written and printed, the times of samples, the places of moments and the ticks of clock intervals.
+//! Moments as they are written and printed, the times of samples, the places of moments and the ticks of
+//! clock intervals.
 #![tactic(auto)]
 
 pub use bad_moment::BadMoment;
 pub use clock::Clock;
+pub use laws::{places_by_neighbours, shows_moments};
 pub use moment::{read_moment, to_utc};
 pub use printed::print_moment;
 pub use ticks::Ticks;
-pub use time_code::read_code;
+pub use time_code::{MOST_OFFSET, read_code};
 
 mod bad_moment;
 mod clock;
 mod date;
 mod field;
+mod laws;
 mod moment;
 mod printed;
 #[cfg(test)]

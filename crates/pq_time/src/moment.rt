@@ -3,9 +3,10 @@ ghost use Rattle.std.specs.Prelude.{◌≡◌, ◌*◌, ◌^◌, IfOk};
 ghost use Rattle.pq_time.specs.Moment.{written_moment, utc_of};
 ghost use Rattle.pq_words.specs.Magnitude.{IsWithin};
 
-use crate::BadMoment;
 use crate::date::read_date;
 use crate::time_of_day::read_time;
+use crate::{BadMoment, MOST_OFFSET};
+use pq_words::MOST_NANOSECONDS;
 
 const NANOSECONDS_IN_DAY: i64 = 86_400_000_000_000;
 
@@ -34,8 +35,8 @@ pub fn read_moment(date: &[u8], time: &[u8]) -> Result<i64, BadMoment>
 
 /// UTC, in nanoseconds since 1970, of a written moment at an offset in minutes.
 pub fn to_utc(local: i64, minutes: i32) -> i64
-    requires local { IsWithin (8 * 10 ^ 18) local }
-    requires minutes { IsWithin 899 minutes }
+    requires local { IsWithin MOST_NANOSECONDS local }
+    requires minutes { IsWithin MOST_OFFSET minutes }
     ensures { result ≡ utc_of local minutes }
 {
     local - i64::from(minutes) * NANOSECONDS_IN_MINUTE

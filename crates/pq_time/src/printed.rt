@@ -1,61 +1,31 @@
 // Printed moments.
-ghost use Rattle.std.specs.Prelude.{◌≡◌, ◌*◌, ◌/◌, ◌%◌, ◌^◌, ◌<◌, ◌≤◌, ◌++◌, ◌∷◌, [], pos, ◌≤ℤ◌, unsigned_abs};
-ghost use Rattle.pq_time.specs.Printed.{printed_moment, date_shown, since_1600, time_at, hms_text};
+ghost use Rattle.std.specs.Prelude.{◌≡◌, ◌++◌, ◌∷◌, []};
+ghost use Rattle.pq_time.specs.Printed.{date_shown, date_view, printed_moment, since_midnight, time_at, time_text, ymd_text};
 ghost use Rattle.pq_words.specs.Text.{padded};
 
 use jiff_core::civil::Date;
 
 const NANOSECONDS_IN_DAY: i64 = 86_400_000_000_000;
 
-// The last two digits of a number.
-fn two_digits(n: u64) -> [u8; 2]
-    ensures { result ≡ padded 2 n }
+/// The moment in UTC, as `yyyy-mm-ddThh:mm:ss.nnnnnnnnnZ`.
+pub fn print_moment(t: i64) -> [u8; 30]
+    ensures { result ≡ printed_moment t }
 {
-    [b'0' + (n / 10 % 10) as u8, b'0' + (n % 10) as u8]
+    joined(date_text(date_on(t)), time_text(within_day(t)))
 }
 
-// The last three.
-fn three_digits(n: u64) -> [u8; 3]
-    ensures { result ≡ padded 3 n }
+// The date that a clock in UTC shows.
+fn date_on(t: i64) -> Date
+    ensures { date_view result ≡ date_shown t }
 {
-    let [tens, ones] = two_digits(n);
-    [b'0' + (n / 100 % 10) as u8, tens, ones]
+    Date::from_unix_epoch_day(t.div_euclid(NANOSECONDS_IN_DAY)).unwrap()
 }
 
-// The last nine.
-fn nine_digits(n: u64) -> [u8; 9]
-    ensures { result ≡ padded 9 n }
+// The nanoseconds since midnight in UTC.
+fn within_day(t: i64) -> u64
+    ensures { result ≡ since_midnight t }
 {
-    let [a, b, c] = three_digits(n / 1_000_000);
-    let [d, e, f] = three_digits(n / 1000);
-    let [g, h, i] = three_digits(n);
-    [a, b, c, d, e, f, g, h, i]
-}
-
-// `yyyy-mm-dd`
-fn date_text(date: Date) -> [u8; 10]
-    requires { pos 0 ≤ℤ date.year }
-    ensures { result ≡ padded 4 (unsigned_abs date.year) ++ 45 ∷ padded 2 date.month ++ 45 ∷ padded 2 date.day }
-{
-    let year = u64::from(date.year.unsigned_abs());
-    let [y0, y1] = two_digits(year / 100);
-    let [y2, y3] = two_digits(year);
-    let [m0, m1] = two_digits(u64::from(date.month));
-    let [d0, d1] = two_digits(u64::from(date.day));
-    [y0, y1, y2, y3, b'-', m0, m1, b'-', d0, d1]
-}
-
-// `hh:mm:ss.nnnnnnnnn`, at so many nanoseconds since midnight.
-fn time_text(n: u64) -> [u8; 18]
-    ensures { result ≡ hms_text (time_at n) ++ 46 ∷ padded 9 (n % 1_000_000_000) }
-{
-    let [h0, h1] = two_digits(n / 3_600_000_000_000);
-    let [m0, m1] = two_digits(n / 60_000_000_000 % 60);
-    let [s0, s1] = two_digits(n / 1_000_000_000 % 60);
-    let [a, b, c, d, e, f, g, h, i] = nine_digits(n % 1_000_000_000);
-    [
-        h0, h1, b':', m0, m1, b':', s0, s1, b'.', a, b, c, d, e, f, g, h, i,
-    ]
+    t.rem_euclid(NANOSECONDS_IN_DAY) as u64
 }
 
 // The date and the time of day as one text.
@@ -68,25 +38,52 @@ fn joined(date: [u8; 10], time: [u8; 18]) -> [u8; 30]
     text
 }
 
-// The date that a clock in UTC shows.
-fn date_on(t: i64) -> Date
-    ensures year { result.year ≡ pos (date_shown t).year }
-    ensures month { result.month ≡ (date_shown t).month }
-    ensures day { result.day ≡ (date_shown t).day }
+// `yyyy-mm-dd`
+fn date_text(date: Date) -> [u8; 10]
+    ensures { result ≡ ymd_text (date_view date) }
 {
-    Date::from_unix_epoch_day(t.div_euclid(NANOSECONDS_IN_DAY)).unwrap()
+    let year = u64::from(date.year.unsigned_abs());
+    let [y0, y1] = two_digits(year / 100);
+    let [y2, y3] = two_digits(year);
+    let [m0, m1] = two_digits(u64::from(date.month));
+    let [d0, d1] = two_digits(u64::from(date.day));
+    [y0, y1, y2, y3, b'-', m0, m1, b'-', d0, d1]
 }
 
-// The nanoseconds since midnight in UTC.
-fn within_day(t: i64) -> u64
-    ensures { result ≡ since_1600 t % 86_400_000_000_000 }
+// `hh:mm:ss.nnnnnnnnn`, at so many nanoseconds since midnight.
+fn time_text(n: u64) -> [u8; 18]
+    ensures { result ≡ time_text (time_at n) }
 {
-    t.rem_euclid(NANOSECONDS_IN_DAY) as u64
+    let [h0, h1] = two_digits(n / 3_600_000_000_000);
+    let [m0, m1] = two_digits(n / 60_000_000_000 % 60);
+    let [s0, s1] = two_digits(n / 1_000_000_000 % 60);
+    let [a, b, c, d, e, f, g, h, i] = nine_digits(n % 1_000_000_000);
+    [
+        h0, h1, b':', m0, m1, b':', s0, s1, b'.', a, b, c, d, e, f, g, h, i,
+    ]
 }
 
-/// The moment in UTC, as `yyyy-mm-ddThh:mm:ss.nnnnnnnnnZ`.
-pub fn print_moment(t: i64) -> [u8; 30]
-    ensures { result ≡ printed_moment t }
+// The last nine digits of a number.
+fn nine_digits(n: u64) -> [u8; 9]
+    ensures { result ≡ padded 9 n }
 {
-    joined(date_text(date_on(t)), time_text(within_day(t)))
+    let [a, b, c] = three_digits(n / 1_000_000);
+    let [d, e, f] = three_digits(n / 1000);
+    let [g, h, i] = three_digits(n);
+    [a, b, c, d, e, f, g, h, i]
+}
+
+// The last three.
+fn three_digits(n: u64) -> [u8; 3]
+    ensures { result ≡ padded 3 n }
+{
+    let [tens, ones] = two_digits(n);
+    [b'0' + (n / 100 % 10) as u8, tens, ones]
+}
+
+// The last two.
+fn two_digits(n: u64) -> [u8; 2]
+    ensures { result ≡ padded 2 n }
+{
+    [b'0' + (n / 10 % 10) as u8, b'0' + (n % 10) as u8]
 }

@@ -6,11 +6,11 @@ use Rattle.std.proofs.lemmas.Bool.{cases_lt}
 use Rattle.std.proofs.lemmas.Bool.Decides.{nat_tests}
 use Rattle.std.proofs.lemmas.List.{append-nil, length_push}
 use Rattle.ten_twelve.specs.Chopper.{BeginsAtFront}
-use Rattle.ten_twelve.specs.Places.{is_nil}
-use Rattle.ten_twelve.specs.Run.{Element, Pending, begins_run, marked, fronts, pending_from, pending_runs}
+use Rattle.ten_twelve.specs.Unfinished.{is_nil}
+use Rattle.ten_twelve.specs.Run.{Element, PendingRun, begins_run, marked, fronts, pending_from, pending_runs}
 use Rattle.ten_twelve.proofs.NumberLemmas.{filter_nothing}
 use Rattle.ten_twelve.proofs.ChopLemmas.{begins_from}
-use Rattle.ten_twelve.proofs.PendingLaws.{fronts_push, begins_at_front, begins_at_other}
+use Rattle.ten_twelve.proofs.PendingLaws.{fronts_push, begins_at_front, begins_at_other, latest_runs, pending_runs_latest}
 use Rattle.pq_words.specs.Steps.{numbers_from}
 
 -- ---- the last front
@@ -70,7 +70,7 @@ not_whole a d m some less inside whole = at (a / m) refl
         let product : a / m * m ≡ suc k * m = ap (λ q. q * m) e in
         let parts : a - d ≡ m - d + k * m = omega (arith, product, whole, less) in
         let rest : (a - d) % m ≡ m - d = ap (λ x. x % m) parts ∙ add-mul-mod_self_right (m - d) k m
-            ∙ mod-eq_of_lt (omega (arith, some, less)) in
+        ∙ mod-eq_of_lt (omega (arith, some, less)) in
         omega (arith, rest, less)
 
 at_least_one : (a m : ℕ) → 0 < a → a % m ≡ 0 → m ≤ a
@@ -106,24 +106,22 @@ filter_some p low (suc n) x from below passes =
 
 -- ---- where a run begins
 
-none_mapped : (f : ℕ → Pending) (xs : List ℕ) → xs ≡ [] → is_nil (map f xs) ≡ true
+none_mapped : (f : ℕ → PendingRun) (xs : List ℕ) → xs ≡ [] → is_nil (map f xs) ≡ true
 none_mapped f xs e = ap (λ xs. is_nil (map f xs)) e
 
-some_mapped : (f : ℕ → Pending) (xs : List ℕ) → xs ≢ [] → is_nil (map f xs) ≡ false
+some_mapped : (f : ℕ → PendingRun) (xs : List ℕ) → xs ≢ [] → is_nil (map f xs) ≡ false
 some_mapped f [] h = absurd (h refl)
 some_mapped f (x ∷ xs) h = refl
 
--- after some elements that begin at a front, a run begins exactly where none lacks elements
-begins_when_none : (fed : List Element) (m : ℕ) → 1 ≤ m → LastFront fed →
-    begins_run (fronts fed) m (length fed) ≡ is_nil (pending_runs m fed)
-unfolding pending_runs
-begins_when_none fed m some h =
+begins_when_no_latest : (fed : List Element) (m : ℕ) → 1 ≤ m → LastFront fed →
+    begins_run (fronts fed) m (length fed) ≡ is_nil (latest_runs m fed)
+begins_when_no_latest fed m some h =
     let n = length fed in
     let g = h.last in
     let first = n + 1 - m in
     let test : ℕ → Bool = begins_run (fronts fed) m in
     let from : (x : ℕ) → g ≤ x → test x ≡ ((x - g) % m == 0) = λ x late. ap (λ s. begins_run s m x) h.all
-        ∙ begins_from h.earlier g m x late in
+    ∙ begins_from h.earlier g m x late in
     let here : test n ≡ ((n - g) % m == 0) = from n (omega (arith, h.inside)) in
     elim (cases_lt 0 ((n - g) % m)) [
       | inl part ↦
@@ -131,12 +129,12 @@ begins_when_none fed m some h =
           let back : x - g ≡ (n - g) - (n - g) % m = omega (arith, h.inside, some) in
           let late : g ≤ x = omega (arith, h.inside, some) in
           let passes : test x ≡ true = from x late ∙ ap (λ k. k % m == 0) back
-              ∙ ap (λ k. k == 0) (whole_before (n - g) m (omega (arith, some))) in
+          ∙ ap (λ k. k == 0) (whole_before (n - g) m (omega (arith, some))) in
           let no : ((n - g) % m == 0) ≡ false = grind (arith, nat_tests, part) in
           here ∙ no
           ∙ sym (some_mapped (pending_from fed) (filter test (numbers_from first (n - first)))
-              (filter_some test first (n - first) x (omega (arith, some, part))
-              (omega (arith, some, part, h.inside)) passes))
+          (filter_some test first (n - first) x (omega (arith, some, part))
+          (omega (arith, some, part, h.inside)) passes))
       | inr whole ↦
           let zero_left : (n - g) % m ≡ 0 = omega (arith, whole) in
           let yes : ((n - g) % m == 0) ≡ true = ap (λ k. k == 0) zero_left in
@@ -145,11 +143,17 @@ begins_when_none fed m some h =
           ∙ sym (none_mapped (pending_from fed) (filter test (numbers_from first (n - first)))
           (filter_nothing test first (n - first) (λ x low below.
           let lacking : 0 < ((n - g) - (n - x)) % m = not_whole (n - g) (n - x) m (omega (arith, below))
-              (omega (arith, low, below, far)) (omega (arith, low, below, far)) zero_left in
+          (omega (arith, low, below, far)) (omega (arith, low, below, far)) zero_left in
           let back : x - g ≡ (n - g) - (n - x) = omega (arith, low, below, far, h.inside) in
           let no : (((n - g) - (n - x)) % m == 0) ≡ false = grind (arith, nat_tests, lacking) in
           from x (omega (arith, low, far)) ∙ ap (λ k. k % m == 0) back ∙ no)))
     ]
+
+-- after some elements that begin at a front, a run begins exactly where none lacks elements
+begins_when_none : (fed : List Element) (m : ℕ) → 1 ≤ m → LastFront fed →
+    begins_run (fronts fed) m (length fed) ≡ is_nil (pending_runs m fed)
+begins_when_none fed m some h = subst (λ rs. begins_run (fronts fed) m (length fed) ≡ is_nil rs)
+    (sym (pending_runs_latest m fed some)) (begins_when_no_latest fed m some h)
 
 -- so of one more element, a run begins with it at a front, or where none lacks elements
 pub begins_with : (fed : List Element) (e : Element) (m : ℕ) → 1 ≤ m → BeginsAtFront (fed ++ e ∷ [])

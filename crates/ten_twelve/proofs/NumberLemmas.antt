@@ -20,7 +20,7 @@ numbers_split low (suc a) b =
     let more : suc a + b ≡ suc (a + b) = omega arith in
     let on : low + 1 + a ≡ low + suc a = omega arith in
     ap (numbers_from low) more ∙ ap (λ xs. low ∷ xs)
-        (numbers_split (low + 1) a b ∙ ap (λ l. numbers_from (low + 1) a ++ numbers_from l b) on)
+    (numbers_split (low + 1) a b ∙ ap (λ l. numbers_from (low + 1) a ++ numbers_from l b) on)
 
 -- one element more
 pub filter_push : {X : Type 0} (p : X → Bool) (xs : List X) (x : X) → filter p (xs ++ x ∷ []) ≡ filter p xs
@@ -44,7 +44,7 @@ filter_agree p q low zero same = refl
 filter_agree p q low (suc n) same =
     let here : p low ≡ q low = same low (omega arith) (omega arith) in
     let rest : filter p (numbers_from (low + 1) n) ≡ filter q (numbers_from (low + 1) n) =
-        filter_agree p q (low + 1) n (λ x from below. same x (omega (arith, from)) (omega (arith, below))) in
+    filter_agree p q (low + 1) n (λ x from below. same x (omega (arith, from)) (omega (arith, below))) in
     ap (λ b. cond b (low ∷ filter p (numbers_from (low + 1) n)) (filter p (numbers_from (low + 1) n))) here
     ∙ ap (λ xs. cond (q low) (low ∷ xs) xs) rest
 
@@ -55,7 +55,7 @@ unfolding numbers_from
 filter_nothing p low zero fails = refl
 filter_nothing p low (suc n) fails =
     ap (λ b. cond b (low ∷ filter p (numbers_from (low + 1) n)) (filter p (numbers_from (low + 1) n)))
-        (fails low (omega arith) (omega arith))
+    (fails low (omega arith) (omega arith))
     ∙ filter_nothing p (low + 1) n (λ x from below. fails x (omega (arith, from)) (omega (arith, below)))
 
 -- ---- whole lengths after a number
@@ -90,7 +90,7 @@ rounded_up_part n m some part = omega (arith, next_quotient n m some, part)
 
 multiple_step : (g m n : ℕ) (b : Bool) → 1 ≤ m → (n % m == 0) ≡ b
     → map (λ k. g + k * m) (numbers_below (div_ceil n m)) ++ cond b ((g + n) ∷ []) []
-        ≡ map (λ k. g + k * m) (numbers_below (div_ceil (n + 1) m))
+    ≡ map (λ k. g + k * m) (numbers_below (div_ceil (n + 1) m))
 multiple_step g m n true some is =
     let r = rounded_up_whole n m some (grind (arith, nat_tests, is)) in
     let last : g + n ≡ g + div_ceil n m * m = omega (arith, r.0) in
@@ -100,7 +100,7 @@ multiple_step g m n true some is =
 multiple_step g m n false some is =
     let r = rounded_up_part n m some (grind (arith, nat_tests, is)) in
     append-nil (map (λ k. g + k * m) (numbers_below (div_ceil n m)))
-        ∙ ap (λ c. map (λ k. g + k * m) (numbers_below c)) (sym r)
+    ∙ ap (λ c. map (λ k. g + k * m) (numbers_below c)) (sym r)
 
 -- no numbers have no length
 pub nothing_up : (m : ℕ) → 1 ≤ m → div_ceil 0 m ≡ 0
@@ -118,6 +118,6 @@ multiples g m (suc n) some =
     numbers_filter_push (λ x. (x - g) % m == 0) g n
     ∙ ap (λ xs. xs ++ cond ((g + n - g) % m == 0) ((g + n) ∷ []) []) (multiples g m n some)
     ∙ ap (λ i. map (λ k. g + k * m) (numbers_below (div_ceil n m)) ++ cond (i % m == 0) ((g + n) ∷ []) [])
-        back
+    back
     ∙ multiple_step g m n (n % m == 0) some refl
     ∙ ap (λ i. map (λ k. g + k * m) (numbers_below (div_ceil i m))) (sym next)

@@ -1,7 +1,7 @@
 -- Worked values, so that a wrong rule in the specs does not check.
-use Rattle.std.proofs.Common.{◌≡◌, ℕ, Bool, List, [], ◌∷◌, map, true, false, refl}
+use Rattle.std.proofs.Common.{◌≡◌, ℕ, Bool, List, [], ◌∷◌, map, true, false, Some, None, refl}
 use Rattle.ten_twelve.specs.declared.span.Span.{Span}
-use Rattle.ten_twelve.specs.Run.{Element, runs, marked, chopped, pending_runs}
+use Rattle.ten_twelve.specs.Run.{Element, latest_start, runs, marked, chopped, pending_runs}
 use Rattle.pq_words.specs.Steps.{numbers_from}
 
 -- the indices at which runs begin
@@ -21,16 +21,21 @@ pub runs_at_edges : (begun (runs (0 ∷ 20 ∷ []) 10 20) ≡ 0 ∷ 10 ∷ []) �
 unfolding runs numbers_from
 runs_at_edges = (refl, refl, refl, refl)
 
+-- the latest start is one at the index itself, else the one before it; before the first start there is none
+pub latest_starts : map (latest_start (3 ∷ 24 ∷ [])) (2 ∷ 3 ∷ 23 ∷ 24 ∷ 30 ∷ [])
+    ≡ None ∷ Some 3 ∷ Some 3 ∷ Some 24 ∷ Some 24 ∷ []
+latest_starts = refl
+
 -- twelve cycles a run
 pub runs_of_twelve : runs (0 ∷ []) 12 24 ≡ record { start = 0; end = 12 } ∷ record { start = 12; end = 24 } ∷
     []
 unfolding runs numbers_from
 runs_of_twelve = refl
 
--- the places of the marks that are set
-pub marked_places : marked (true ∷ false ∷ false ∷ true ∷ []) ≡ 0 ∷ 3 ∷ []
+-- the indices of the marks that are set
+pub marked_indices : marked (true ∷ false ∷ false ∷ true ∷ []) ≡ 0 ∷ 3 ∷ []
 unfolding marked
-marked_places = refl
+marked_indices = refl
 
 -- an element of ten places
 abbrev at : Bool → ℕ → ℕ → Element
@@ -47,7 +52,7 @@ chopped_elements = refl
 pub pending_at_front : (pending_runs 2 (at true 0 10 ∷ at false 10 20 ∷ at false 20 30 ∷ [])
     ≡ record { start = 20; count = 1 } ∷ [])
     × (pending_runs 3 (at true 0 10 ∷ at true 5 15 ∷ [])
-        ≡ record { start = 0; count = 2 } ∷ record { start = 5; count = 1 } ∷ [])
+    ≡ record { start = 0; count = 2 } ∷ record { start = 5; count = 1 } ∷ [])
     × (pending_runs 3 (at true 0 10 ∷ at false 10 20 ∷ at false 20 30 ∷ []) ≡ [])
 unfolding pending_runs marked numbers_from
 pending_at_front = (refl, refl, refl)

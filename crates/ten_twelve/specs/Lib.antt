@@ -1,4 +1,4 @@
 pub mod Run
 pub mod Chopper
-pub mod Places
+pub mod Unfinished
 pub mod WholeList

@@ -4,18 +4,8 @@ ghost use Rattle.ten_twelve.specs.Chopper.{HasSeen, MayFollow, Completes, SeesMo
 ghost use Rattle.ten_twelve.specs.Run.{IsRunLength};
 
 use crate::Span;
-use crate::places::{Begun, Places};
+use crate::unfinished::{Unfinished, UnfinishedRun};
 use std::marker::Model;
-
-// A run as a span up to a place.
-fn spanned(run: Option<Begun>, end: u64) -> Option<Span>
-    ensures { result ≡ option_map (λ r. record { start = r.start; end = end }) run }
-{
-    run.map(|run| Span {
-        start: run.start,
-        end,
-    })
-}
 
 /// Finds the runs of consecutive elements that it is fed, each at its last element
 /// (IEC 61000-4-30:2015, 4.5; where they begin anew is profile). Runs begin at each front and at whole
@@ -23,19 +13,19 @@ fn spanned(run: Option<Begun>, end: u64) -> Option<Span>
 #[derive(Drop)]
 pub struct Chopper {
     length: u64,
-    places: Places,
+    unfinished: Unfinished,
 }
 
 impl Model for Chopper {
-    ghost use Rattle.ten_twelve.specs.Chopper.{Chopping};
-    ghost use Rattle.ten_twelve.specs.Places.{pending_of, ArePlaces};
+    ghost use Rattle.ten_twelve.specs.Chopper.{ChopperView};
+    ghost use Rattle.ten_twelve.specs.Unfinished.{AreUnfinished, pending_of};
     ghost use Rattle.ten_twelve.specs.Run.{IsRunLength};
 
-    ghost Value = { Chopping };
+    ghost Value = { ChopperView };
 
-    ghost view = { λ c. record { length = c.length; pending = pending_of c.places } };
+    ghost view = { λ c. record { length = c.length; pending = pending_of c.unfinished } };
 
-    ghost invariant = { λ c. IsRunLength c.length × ArePlaces c.length c.places };
+    ghost invariant = { λ c. IsRunLength c.length × AreUnfinished c.length c.unfinished };
 }
 
 impl Chopper {
@@ -47,7 +37,7 @@ impl Chopper {
     {
         Chopper {
             length,
-            places: Places {
+            unfinished: Unfinished {
                 older: None,
                 latest: None,
             },
@@ -65,8 +55,20 @@ impl Chopper {
         if self.length == 1 {
             return Some(element);
         }
-        let (whole, places) = self.places.with_element(self.length, front, element.start);
-        self.places = places;
+        let (whole, unfinished) = self
+            .unfinished
+            .with_element(self.length, front, element.start);
+        self.unfinished = unfinished;
         spanned(whole, element.end)
     }
+}
+
+// A run as a span up to a place.
+fn spanned(run: Option<UnfinishedRun>, end: u64) -> Option<Span>
+    ensures { result ≡ option_map (λ r. record { start = r.start; end = end }) run }
+{
+    run.map(|run| Span {
+        start: run.start,
+        end,
+    })
 }

@@ -2,12 +2,16 @@
 #![tactic(auto)]
 
 pub use chopper::Chopper;
+pub use laws::gives_runs;
+pub use out_of_memory::OutOfMemory;
 pub use span::Span;
-pub use whole_list::{OutOfMemory, chop};
+pub use whole_list::chop;
 
 mod chopper;
-mod places;
+mod laws;
+mod out_of_memory;
 mod span;
 #[cfg(test)]
 mod tests;
+mod unfinished;
 mod whole_list;

@@ -1,4 +1,4 @@
-// A span of places or of indices.
+// A span.
 
 /// From a place or an index up to another.
 #[derive(Clone, Copy, Debug, PartialEq, Eq)]

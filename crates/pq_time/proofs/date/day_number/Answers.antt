@@ -8,6 +8,6 @@ use Rattle.pq_time.proofs.date.day_number.Goals as goal
 pub returns-in-Ok-clause-within : goal.returns-in-Ok-clause-within
 returns-in-Ok-clause-within c =
     let range = written_day c.in-Ok.date (omega (arith, ints, c.in-Ok.ensures.value))
-        (omega (arith, ints, c.in-Ok.ensures.value)) in
+    (omega (arith, ints, c.in-Ok.ensures.value)) in
     let same : epoch_day c.to_plain.result ≡ epoch_day c.in-Ok.date = ap epoch_day c.to_plain.ensures in
     omega (arith, ints, range)

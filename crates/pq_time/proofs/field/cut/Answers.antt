@@ -4,7 +4,7 @@ use Rattle.pq_time.proofs.field.cut.Goals as goal
 
 -- the place that was found
 pub returns-in-Some-clause-value : goal.returns-in-Some-clause-value
-returns-in-Some-clause-value c = parts_cut c.args.at c.args.text.now c.in-Some.place (sym c.in-Some.ensures)
+returns-in-Some-clause-value c = parts_cut c.args.at c.args.text.now c.in-Some.index (sym c.in-Some.ensures)
 
 -- no separator was found
 pub returns-in-None-clause-none : goal.returns-in-None-clause-none

@@ -6,15 +6,15 @@ use Rattle.pq_time.proofs.field.digits_between.Goals as goal
 pub overflow_mul-value : goal.overflow_mul-value
 overflow_mul-value c =
     let small : c.loop-byte.value < 10 ^ 8 = read_fits c.args.text.now c.loop-byte.byte-index 8
-        c.loop-byte.value (omega arith) c.loop-byte.invariant in
+    c.loop-byte.value (omega arith) c.loop-byte.invariant in
     omega arith
 
 pub overflow_add-value : goal.overflow_add-value
 overflow_add-value c =
     let small : c.loop-byte.value < 10 ^ 8 = read_fits c.args.text.now c.loop-byte.byte-index 8
-        c.loop-byte.value (omega arith) c.loop-byte.invariant in
+    c.loop-byte.value (omega arith) c.loop-byte.invariant in
     let digit = digit_of (get_or c.args.text.now c.loop-byte.byte-index 0) c.from.result
-        (sym c.is_ascii_digit.ensures.value ∙ c.if-not-is_ascii_digit.false) c.from.ensures in
+    (sym c.is_ascii_digit.ensures.value ∙ c.if-not-is_ascii_digit.false) c.from.ensures in
     omega (arith, digit.0)
 
 -- one digit more

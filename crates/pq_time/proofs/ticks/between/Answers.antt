@@ -18,7 +18,7 @@ invariant_of-result c =
     let first_fits : FitsSigned w64 c.args.first = c.ranges.first in
     let last_fits : FitsSigned w64 c.args.last = c.ranges.last in
     let count : c.count.result ≡ at_least_zero ((c.args.last -ℤ c.args.first) +ℤ pos 1) =
-        simp to_z-of_z at c.count.ensures in
+    simp to_z-of_z at c.count.ensures in
     let low : ℤ → Type 0 = λ z. neg_ℤ (pos (10 ^ 14)) ≤ℤ z in
     let high : ℤ → Type 0 = λ z. (z +ℤ pos (c.count.result * c.args.period)) ≤ℤ pos (10 ^ 14) in
     (short, subst low (sym is) ends.0, subst high (sym is) (rw count ends.1))
@@ -29,7 +29,7 @@ returns c =
     let first_fits : FitsSigned w64 c.args.first = c.ranges.first in
     let last_fits : FitsSigned w64 c.args.last = c.ranges.last in
     let count : c.count.result ≡ at_least_zero ((c.args.last -ℤ c.args.first) +ℤ pos 1) =
-        simp to_z-of_z at c.count.ensures in
+    simp to_z-of_z at c.count.ensures in
     ap (λ z. steps_from z c.args.period c.count.result)
-        (seconds_are c.args.first c.args.period (omega arith) c.requires.first)
+    (seconds_are c.args.first c.args.period (omega arith) c.requires.first)
     ∙ ap (steps_from (c.args.first *ℤ pos c.args.period) c.args.period) count

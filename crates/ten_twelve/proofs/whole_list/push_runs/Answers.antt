@@ -1,4 +1,4 @@
-use Rattle.std.proofs.Common.{not, ap, ◌∙◌, ◌+◌, ◌*◌, refl}
+use Rattle.std.proofs.Common.{◌∙◌, ◌+◌, ◌*◌, refl}
 use Rattle.ten_twelve.proofs.StepLemmas.{no_runs, one_run}
 use Rattle.ten_twelve.proofs.whole_list.push_runs.Goals as goal
 
@@ -9,7 +9,7 @@ loop-k-init c = no_runs c.args.spans.now.items c.args.length c.args.from
 -- one run was added
 pub loop-k-preserved : goal.loop-k-preserved
 loop-k-preserved c =
-    let ok = c.is_err.ensures.negation ∙ ap not c.if-is_err.false in
     let start = c.args.from + c.loop-k.k * c.args.length in
-    (rw ok at c.push.ensures.items) ∙ one_run c.args.spans.now.items c.loop-k.spans.items c.args.length
-        c.args.from c.loop-k.k start (start + c.args.length) c.loop-k.invariant refl refl
+    c.in_ok-push.ensures.items
+    ∙ one_run c.args.spans.now.items c.loop-k.spans.items c.args.length c.args.from c.loop-k.k start
+    (start + c.args.length) c.loop-k.invariant refl refl

@@ -1,8 +1,7 @@
 -- Each way through the function is one of the ways of a step.
-use Rattle.std.proofs.Common.{◌≡◌, Some, None}
-use Rattle.event_detect.specs.Detector.{condition}
-use Rattle.event_detect.proofs.WorstLaws.{with_seen}
-use Rattle.event_detect.proofs.DetectorLaws.{shown, parts, idle_ends, idle_begins, idle_stays, running_ends, running_stops, running_stays, running_goes_on, with_parts}
+use Rattle.std.proofs.Common.{Some, None, sym}
+use Rattle.event_detect.specs.Detector.{condition, running_view}
+use Rattle.event_detect.proofs.DetectorLaws.{parts, idle_ends, idle_begins, idle_stays, running_ends, running_stops, running_stays, running_goes_on}
 use Rattle.event_detect.proofs.detector.Detector.step.Goals as goal
 
 -- none runs, and one begins
@@ -11,14 +10,14 @@ returns-then-begins-clause-value c =
     let kind = c.self.inside.kind in
     let fed = condition c.args.begins c.args.ends c.args.channel c.args.window in
     idle_ends c.args.self.now kind fed (parts kind c.self.inside.running None c.args.self.now c.in_default.is
-        c.self.view_is)
+    c.self.view_is)
 
 pub returns-then-begins-clause-seen : goal.returns-then-begins-clause-seen
 returns-then-begins-clause-seen c =
     let kind = c.self.inside.kind in
     let fed = condition c.args.begins c.args.ends c.args.channel c.args.window in
     idle_begins c.args.self.now kind fed (parts kind c.self.inside.running None c.args.self.now
-        c.in_default.is c.self.view_is) c.if-begins.true
+    c.in_default.is c.self.view_is) c.if-begins.true
 
 -- none runs, and none begins
 pub returns-else-begins-clause-value : goal.returns-else-begins-clause-value
@@ -26,37 +25,34 @@ returns-else-begins-clause-value c =
     let kind = c.self.inside.kind in
     let fed = condition c.args.begins c.args.ends c.args.channel c.args.window in
     idle_ends c.args.self.now kind fed (parts kind c.self.inside.running None c.args.self.now c.in_default.is
-        c.self.view_is)
+    c.self.view_is)
 
 pub returns-else-begins-clause-seen : goal.returns-else-begins-clause-seen
 returns-else-begins-clause-seen c =
     let kind = c.self.inside.kind in
     let fed = condition c.args.begins c.args.ends c.args.channel c.args.window in
     idle_stays c.args.self.now kind fed (parts kind c.self.inside.running None c.args.self.now c.in_default.is
-        c.self.view_is) c.if-begins.false
+    c.self.view_is) c.if-begins.false
 
 -- one runs, and ends
 pub returns-then-ends-clause-value : goal.returns-then-ends-clause-value
 returns-then-ends-clause-value c =
     let kind = c.self.inside.kind in
     let kept = c.in-Some.running in
-    let next = shown c.with-running.result in
+    let next = running_view c.with-running.result in
     let fed = condition c.args.begins c.args.ends c.args.channel c.args.window in
-    let more : with_seen kind (shown kept) c.args.channel c.args.window.value ≡ next =
-    with_parts kind (shown kept) next c.args.channel c.args.window.value c.with-running.ensures.start
-        c.with-running.ensures.channel c.with-running.ensures.value in
-    running_ends c.args.self.now kind (shown kept) next fed c.event.result
+    running_ends c.args.self.now kind (running_view kept) next fed c.event.result
     (parts kind c.self.inside.running (Some kept) c.args.self.now c.in-Some.is c.self.view_is)
-    c.if-ends.true more c.event.ensures
+    c.if-ends.true (sym c.with-running.ensures) c.event.ensures
 
 pub returns-then-ends-clause-seen : goal.returns-then-ends-clause-seen
 returns-then-ends-clause-seen c =
     let kind = c.self.inside.kind in
     let kept = c.in-Some.running in
     let fed = condition c.args.begins c.args.ends c.args.channel c.args.window in
-    running_stops c.args.self.now kind (shown kept) fed
-        (parts kind c.self.inside.running (Some kept) c.args.self.now c.in-Some.is c.self.view_is)
-        c.if-ends.true
+    running_stops c.args.self.now kind (running_view kept) fed
+    (parts kind c.self.inside.running (Some kept) c.args.self.now c.in-Some.is c.self.view_is)
+    c.if-ends.true
 
 -- one runs, and goes on
 pub returns-clause-value : goal.returns-clause-value
@@ -64,19 +60,16 @@ returns-clause-value c =
     let kind = c.self.inside.kind in
     let kept = c.in-Some.running in
     let fed = condition c.args.begins c.args.ends c.args.channel c.args.window in
-    running_stays c.args.self.now kind (shown kept) fed
-        (parts kind c.self.inside.running (Some kept) c.args.self.now c.in-Some.is c.self.view_is)
-        c.if-ends.false
+    running_stays c.args.self.now kind (running_view kept) fed
+    (parts kind c.self.inside.running (Some kept) c.args.self.now c.in-Some.is c.self.view_is)
+    c.if-ends.false
 
 pub returns-clause-seen : goal.returns-clause-seen
 returns-clause-seen c =
     let kind = c.self.inside.kind in
     let kept = c.in-Some.running in
-    let next = shown c.with-running.result in
+    let next = running_view c.with-running.result in
     let fed = condition c.args.begins c.args.ends c.args.channel c.args.window in
-    let more : with_seen kind (shown kept) c.args.channel c.args.window.value ≡ next =
-    with_parts kind (shown kept) next c.args.channel c.args.window.value c.with-running.ensures.start
-        c.with-running.ensures.channel c.with-running.ensures.value in
-    running_goes_on c.args.self.now kind (shown kept) next fed
+    running_goes_on c.args.self.now kind (running_view kept) next fed
     (parts kind c.self.inside.running (Some kept) c.args.self.now c.in-Some.is c.self.view_is)
-    c.if-ends.false more
+    c.if-ends.false (sym c.with-running.ensures)

@@ -17,8 +17,8 @@ returns-clause-value c =
     let fits_t : FitsSigned w64 c.args.t = c.ranges.t in
     let fits_t0 : FitsSigned w64 clock.t0 = omega (arith, ints) in
     let distance : c.abs_diff.result ≡ unsigned_abs (c.args.t -ℤ clock.t0) =
-        simp to_z-of_z at c.abs_diff.ensures in
+    simp to_z-of_z at c.abs_diff.ensures in
     let passed : c.from-passed.result ≡ unsigned_abs (c.args.t -ℤ clock.t0) = c.from-passed.ensures
-        ∙ distance in
+    ∙ distance in
     let place = place_passed clock c.args.t c.args.n c.from-passed.result (omega arith) later passed in
     cc

@@ -18,23 +18,27 @@ all_ticks c =
     let first_fits : FitsSigned w64 c.first_period-first.result = search rules in
     let last_fits : FitsSigned w64 c.last_period-last.result = search rules in
     let first : c.first_period-first.result ≡ first_period clock.t0 p =
-        simp to_z-of_z at c.first_period-first.ensures.value in
+    simp to_z-of_z at c.first_period-first.ensures.value in
     let last : c.last_period-last.result ≡ last_period c.time_of.result p =
-        simp to_z-of_z at c.last_period-last.ensures.value in
+    simp to_z-of_z at c.last_period-last.ensures.value in
     let all = simp to_z-of_z at c.between.ensures in
     all
     ∙ ap (λ z. steps_from (z *ℤ pos p) p (at_least_zero ((c.last_period-last.result -ℤ z) +ℤ pos 1))) first
     ∙ ap (λ z. steps_from (first_period clock.t0 p *ℤ pos p) p
-        (at_least_zero ((z -ℤ first_period clock.t0 p) +ℤ pos 1)))
-        (last ∙ ap (λ t. last_period t p) c.time_of.ensures)
+    (at_least_zero ((z -ℤ first_period clock.t0 p) +ℤ pos 1)))
+    (last ∙ ap (λ t. last_period t p) c.time_of.ensures)
 
 -- the end of a recording is a moment of an i64
 pub last_period-last-requires-clause-moment : goal.last_period-last-requires-clause-moment
 unfolding time_of
 last_period-last-requires-clause-moment c =
     let clock = c.args.self.now in
-    omega (arith, ints, passed_small c.args.n clock.rate c.requires.places c.requires.clock.slowest,
-        c.time_of.ensures)
+    omega (
+      arith,
+      ints,
+      passed_small c.args.n clock.rate c.requires.places c.requires.clock.slowest,
+      c.time_of.ensures,
+    )
 
 -- from the first whole number of periods to the last
 pub returns-clause-value : goal.returns-clause-value
@@ -50,5 +54,9 @@ returns-clause-each c = subst (HasTicks c.args.self.now c.args.n c.args.period) 
 pub returns-clause-within : goal.returns-clause-within
 returns-clause-within c =
     let clock = c.args.self.now in
-    omega (arith, ap length (all_ticks c), few_ticks clock c.args.n c.args.period (omega arith)
-        c.requires.places c.requires.clock.slowest)
+    omega (
+      arith,
+      ap length (all_ticks c),
+      few_ticks clock c.args.n c.args.period (omega arith)
+          c.requires.places c.requires.clock.slowest,
+    )

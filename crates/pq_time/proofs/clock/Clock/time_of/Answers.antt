@@ -11,6 +11,6 @@ returns c =
     let clock = c.args.self.now in
     let small = passed_small c.args.i clock.rate c.requires.place c.requires.clock.slowest in
     let same : c.from.result * 10 ^ 15 / c.from-2.result ≡ c.args.i * 10 ^ 15 / clock.rate =
-        ap (λ n. n * 10 ^ 15 / c.from-2.result) c.from.ensures
-        ∙ ap (λ n. c.args.i * 10 ^ 15 / n) c.from-2.ensures in
+    ap (λ n. n * 10 ^ 15 / c.from-2.result) c.from.ensures
+    ∙ ap (λ n. c.args.i * 10 ^ 15 / n) c.from-2.ensures in
     omega (arith, ints, small, same)

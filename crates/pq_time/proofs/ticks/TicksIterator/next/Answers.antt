@@ -10,7 +10,7 @@ unfolding steps_from
 returns-then-self-eq0-clause-steps c =
     let t = c.self.inside in
     let none : c.args.self.now ≡ [] = sym c.self.view_is
-        ∙ ap (steps_from t.next t.period) c.if-self-eq0.true in
+    ∙ ap (steps_from t.next t.period) c.if-self-eq0.true in
     (none, none)
 
 -- the first is given, and the others are left
@@ -19,7 +19,7 @@ returns-clause-steps c =
     let t = c.self.inside in
     let after = to_z w64 (of_z w64 (to_z w64 (of_z w64 t.next) +ℤ to_z w64 t.period)) in
     sym c.self.view_is ∙ steps_next t.next (to_z w64 (of_z w64 t.next)) after t.period t.left
-        c.if-self-eq0.false (omega (arith, ints)) (omega (arith, ints))
+    c.if-self-eq0.false (omega (arith, ints)) (omega (arith, ints))
 
 -- one less is left
 pub returns-clause-goes : goal.returns-clause-goes
@@ -27,5 +27,5 @@ returns-clause-goes c =
     let t = c.self.inside in
     let after = to_z w64 (of_z w64 (to_z w64 (of_z w64 t.next) +ℤ to_z w64 t.period)) in
     let step = sym c.self.view_is ∙ steps_next t.next (to_z w64 (of_z w64 t.next)) after t.period t.left
-        c.if-self-eq0.false (omega (arith, ints)) (omega (arith, ints)) in
+    c.if-self-eq0.false (omega (arith, ints)) (omega (arith, ints)) in
     record { on = λ finite. (tt, finite, omega (arith, ap length step)); keeps = tt; rests = λ _. tt }
