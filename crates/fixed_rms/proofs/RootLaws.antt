@@ -1,6 +1,7 @@
 -- The root as a function is the greatest number whose square fits, and the only one.
 use Rattle.std.proofs.Common.{◌≡◌, ℕ, zero, suc, ◌+◌, ◌*◌, ◌/◌, ◌^◌, ◌<◌, ◌≤◌, Bool, true, false, cond, nat_le, refl, inl, inr, arith}
 use Rattle.std.proofs.lemmas.Bool.{cases_lt}
+use Rattle.pq_words.specs.declared.limits.TheConstants.{MOST_MICROVOLTS}
 use Rattle.fixed_rms.specs.Root.{IsGreatestRoot, root_in, isqrt}
 
 square_of_double : (r : ℕ) → (2 * r) * (2 * r) ≡ 4 * (r * r)
@@ -28,7 +29,7 @@ root_in_is zero x small = record { square = omega arith; next = omega (arith, sm
 root_in_is (suc n) x small =
     let quarter : x / 4 < 4 ^ n = grind (arith, small) in
     next_digit (x / 4) x (root_in n (x / 4)) (omega arith) (omega arith) (root_in_is n (x / 4) quarter)
-        (nat_le ((2 * root_in n (x / 4) + 1) * (2 * root_in n (x / 4) + 1)) x) refl
+    (nat_le ((2 * root_in n (x / 4) + 1) * (2 * root_in n (x / 4) + 1)) x) refl
 
 -- the function gives the greatest root
 pub isqrt_is : (x : ℕ) → x < 2 ^ 128 → IsGreatestRoot x (isqrt x)
@@ -54,6 +55,6 @@ one_root x r s a b =
 pub isqrt_only : (x r : ℕ) → x < 2 ^ 128 → IsGreatestRoot x r → r ≡ isqrt x
 isqrt_only x r small h = one_root x r (isqrt x) h (isqrt_is x small)
 
--- the square of a number that is at most 10^13 is at most 10^26
-pub square_within : (n : ℕ) → n ≤ 10 ^ 13 → n * n ≤ 10 ^ 26
-square_within n h = squares_rise n (10 ^ 13) h
+-- the square of a magnitude of a sample
+pub square_within : (n : ℕ) → n ≤ MOST_MICROVOLTS → n * n ≤ MOST_MICROVOLTS ^ 2
+square_within n h = squares_rise n MOST_MICROVOLTS h

@@ -1,6 +1,6 @@
 -- Worked values, so that a wrong rule in the specs does not check.
-use Rattle.std.proofs.Common.{◌≡◌, [], ◌∷◌, ◌-◌, ◌^◌, replicate, map, refl}
-use Rattle.fixed_rms.specs.Root.{root_in, isqrt, root_mean, mean_square, rms}
+use Rattle.std.proofs.Common.{◌≡◌, ℤ, List, [], ◌∷◌, ◌-◌, ◌^◌, replicate, map, pos, neg_ℤ, refl}
+use Rattle.fixed_rms.specs.Root.{root_in, isqrt, root_mean, mean_of_squares, mean_square, rms}
 use Rattle.pq_words.proofs.WorkedSignal.{sine_count, square_count, sampled}
 use Rattle.pq_words.specs.Steps.{numbers_from}
 
@@ -24,5 +24,31 @@ square_root = refl
 
 -- fifteen basic values, one of them lower
 pub fifteen_root : root_mean (229_805_362 ∷ 211_869_380 ∷ replicate 13 229_805_362) ≡ 228_653_405
-unfolding root_mean isqrt root_in
+unfolding root_mean mean_of_squares isqrt root_in
 fifteen_root = refl
+
+-- squares that sum to 35 and to 36
+abbrev thirty_five : List ℤ
+thirty_five = pos 5 ∷ neg_ℤ (pos 3) ∷ pos 1 ∷ pos 0 ∷ []
+
+abbrev thirty_six : List ℤ
+thirty_six = pos 5 ∷ neg_ℤ (pos 3) ∷ pos 1 ∷ neg_ℤ (pos 1) ∷ []
+
+-- a mean of eight and three quarters is 8, and two thirds are 0
+pub mean_squares_round_down : map mean_square
+    (thirty_five ∷ thirty_six ∷ (pos 1 ∷ pos 1 ∷ pos 0 ∷ []) ∷ (pos 1 ∷ pos 1 ∷ pos 1 ∷ []) ∷ [])
+    ≡ 8 ∷ 9 ∷ 0 ∷ 1 ∷ []
+unfolding mean_square
+mean_squares_round_down = refl
+
+-- so their roots are 2 and 0, and that of 9 is 3
+pub roots_round_down : map rms (thirty_five ∷ thirty_six ∷ (pos 1 ∷ pos 1 ∷ pos 0 ∷ []) ∷ []) ≡ 2 ∷ 3 ∷ 0 ∷ []
+unfolding rms mean_square isqrt root_in
+roots_round_down = refl
+
+-- the same of values that are roots
+pub means_of_squares_round_down :
+    (map mean_of_squares ((5 ∷ 3 ∷ 1 ∷ 0 ∷ []) ∷ (5 ∷ 3 ∷ 1 ∷ 1 ∷ []) ∷ []) ≡ 8 ∷ 9 ∷ [])
+    × (map root_mean ((5 ∷ 3 ∷ 1 ∷ 0 ∷ []) ∷ (5 ∷ 3 ∷ 1 ∷ 1 ∷ []) ∷ (1 ∷ 1 ∷ 0 ∷ []) ∷ []) ≡ 2 ∷ 3 ∷ 0 ∷ [])
+unfolding root_mean mean_of_squares isqrt root_in
+means_of_squares_round_down = (refl, refl)

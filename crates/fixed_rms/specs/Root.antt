@@ -1,6 +1,7 @@
 -- The subject: the root of the mean square, the r.m.s. value (IEC 61000-4-30:2015, 4.5 and 5.2). Whole
 -- microvolts and rounding down are profile.
-use Rattle.std.specs.Prelude.{ℕ, zero, suc, ◌+◌, ◌*◌, ◌/◌, ◌<◌, ◌≤◌, nat_le, List, length, sum_by, ℤ, unsigned_abs, if◌then◌else◌}
+use Rattle.std.specs.Prelude.{ℕ, zero, suc, ◌+◌, ◌*◌, ◌/◌, ◌<◌, ◌≤◌, nat_le, List, length, sum_by, ℤ, All, unsigned_abs, if◌then◌else◌}
+use Rattle.pq_words.specs.declared.limits.TheConstants.{MOST_SAMPLES, MOST_MICROVOLTS}
 
 -- r is the greatest number whose square is at most x (profile)
 pub record IsGreatestRoot (x r : ℕ) : Type 0 where
@@ -30,6 +31,15 @@ mean_square samples = sum_by (λ sample. square (unsigned_abs sample)) samples /
 unfoldable pub rms : List ℤ → ℕ
 rms samples = isqrt (mean_square samples)
 
--- the root of the mean of the squares of values that are roots themselves, in microvolts (aggregation, 4.5)
+-- values in microvolts that are roots themselves: at most so many, each at most so large (profile)
+pub record AreRoots (values : List ℕ) : Type 0 where
+  pub short : length values ≤ MOST_SAMPLES
+  pub quiet : All (λ value. value ≤ MOST_MICROVOLTS) values
+
+-- the mean of the squares of such values, rounded down
+unfoldable pub mean_of_squares : List ℕ → ℕ
+mean_of_squares values = sum_by square values / length values
+
+-- the root of that mean, in microvolts (aggregation, 4.5)
 unfoldable pub root_mean : List ℕ → ℕ
-root_mean values = isqrt (sum_by square values / length values)
+root_mean values = isqrt (mean_of_squares values)

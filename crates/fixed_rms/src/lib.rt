@@ -1,4 +1,5 @@
-//! Roots in whole microvolts: the integer root, the root of the mean square of samples, and that of values that are roots themselves.
+//! Roots in whole microvolts: the integer root, the root of the mean square of samples, and that of
+//! values that are roots themselves.
 #![tactic(auto)]
 
 pub use integer_root::isqrt;

@@ -1,17 +1,17 @@
 // Roots of mean squares.
-ghost use Rattle.std.specs.Prelude.{◌≡◌, ◌^◌, ◌<◌, ◌≤◌, length, All};
-ghost use Rattle.fixed_rms.specs.Root.{mean_square, rms, root_mean};
-ghost use Rattle.pq_words.specs.Magnitude.{IsWithin};
+ghost use Rattle.std.specs.Prelude.{◌≡◌, ◌^◌, ◌<◌, ◌≤◌, length};
+ghost use Rattle.fixed_rms.specs.Root.{AreRoots, IsGreatestRoot, mean_of_squares, mean_square, rms, root_mean};
+ghost use Rattle.pq_words.specs.Samples.{AreSamples};
 
 use crate::integer_root::{isqrt, square};
+use pq_words::MOST_MICROVOLTS;
 
 /// The mean of the squares of samples in microvolts, rounded down, in square microvolts.
 pub fn mean_square(samples: &[i64]) -> u128
     requires some { 0 < length samples.now }
-    requires short { length samples.now ≤ 50_000_000 }
-    requires quiet { All (IsWithin (10 ^ 13)) samples.now }
+    requires samples { AreSamples samples.now }
     ensures value { result ≡ mean_square samples.now }
-    ensures within { result ≤ 10 ^ 26 }
+    ensures within { result ≤ MOST_MICROVOLTS ^ 2 }
 {
     let mut sum = 0;
     for sample in samples {
@@ -23,21 +23,22 @@ pub fn mean_square(samples: &[i64]) -> u128
 /// The root of the mean square of samples in microvolts, in microvolts, rounded down (5.2).
 pub fn rms(samples: &[i64]) -> u64
     requires some { 0 < length samples.now }
-    requires short { length samples.now ≤ 50_000_000 }
-    requires quiet { All (IsWithin (10 ^ 13)) samples.now }
+    requires samples { AreSamples samples.now }
     ensures value { result ≡ rms samples.now }
-    ensures within { result ≤ 10 ^ 13 }
+    ensures greatest { IsGreatestRoot (mean_square samples.now) result }
+    ensures within { result ≤ MOST_MICROVOLTS }
 {
     isqrt(mean_square(samples))
 }
 
-/// The root of the mean of the squares of values that are roots themselves, all in microvolts, rounded down (aggregation, 4.5).
+/// The root of the mean of the squares of values that are roots themselves, all in microvolts, rounded
+/// down (aggregation, 4.5).
 pub fn root_mean(values: &[u64]) -> u64
     requires some { 0 < length values.now }
-    requires short { length values.now ≤ 50_000_000 }
-    requires quiet { All (λ value. value ≤ 10 ^ 13) values.now }
+    requires values { AreRoots values.now }
     ensures value { result ≡ root_mean values.now }
-    ensures within { result ≤ 10 ^ 13 }
+    ensures greatest { IsGreatestRoot (mean_of_squares values.now) result }
+    ensures within { result ≤ MOST_MICROVOLTS }
 {
     let mut sum = 0;
     for value in values {

@@ -46,6 +46,8 @@ fn worked_values(rt: HostRuntime) -> Result<(), Fail> {
     assert_eq!(rt; mean_square(&[3, -4]), 12);
     assert_eq!(rt; rms(&SINE), 229_805_362);
     assert_eq!(rt; rms(&[227_500_000, -227_500_000]), 227_500_000);
+    assert_eq!(rt; rms(&[5, -3, 1, 0]), 2);
+    assert_eq!(rt; root_mean(&[229_805_362, 211_869_380]), 221_019_386);
     let mut fifteen = [229_805_362; 15];
     fifteen[1] = 211_869_380;
     assert_eq!(rt; root_mean(&fifteen), 228_653_405);

@@ -11,8 +11,8 @@ use Rattle.pq_words.proofs.WorkedSignal.{sine_count, sampled, halved, replaced}
 -- the windows of a sine in 73 samples: each of one cycle, half a cycle after the one before
 pub sine_windows : windows (sampled sine_count 32_500 73) (rule_of 1_200_000_000 50)
     ≡ record { start = 24; end = 48; value = 229_805_362 } ∷ record
-        { start = 36; end = 60; value = 229_805_362 } ∷ record { start = 48; end = 72; value = 229_805_362 } ∷
-        []
+    { start = 36; end = 60; value = 229_805_362 } ∷ record { start = 48; end = 72; value = 229_805_362 } ∷
+    []
 unfolding windows windows_over window_between rms mean_square isqrt root_in boundaries successors
     first_boundary next_boundary rule_of first_between first_of sampled sine_count numbers_from
 sine_windows = refl
@@ -29,11 +29,11 @@ crossing_without_sample = refl
 pub halved_half_cycles : take 7 (drop 18 (windows (sampled
     (replaced 264 312 (λ i. halved (sine_count i)) sine_count) 32_500 361) (rule_of 1_200_000_000 50)))
     ≡ record { start = 240; end = 264; value = 229_805_362 } ∷ record
-        { start = 252; end = 276; value = 181_675_064 } ∷ record
-        { start = 264; end = 288; value = 114_896_273 }
+    { start = 252; end = 276; value = 181_675_064 } ∷ record
+    { start = 264; end = 288; value = 114_896_273 }
     ∷ record { start = 276; end = 300; value = 114_896_273 } ∷ record
-        { start = 288; end = 312; value = 114_896_273 } ∷ record
-        { start = 300; end = 324; value = 181_675_064 }
+    { start = 288; end = 312; value = 114_896_273 } ∷ record
+    { start = 300; end = 324; value = 181_675_064 }
     ∷ record { start = 312; end = 336; value = 229_805_362 } ∷ []
 unfolding windows windows_over window_between rms mean_square isqrt root_in boundaries successors
     first_boundary next_boundary rule_of first_between first_of sampled sine_count numbers_from
@@ -43,7 +43,7 @@ halved_half_cycles = refl
 pub silent_windows : (windows (replicate 39 (pos 0)) (rule_of 1_200_000_000 50)
     ≡ record { start = 0; end = 24; value = 0 } ∷ [])
     × (windows (replicate 27 (pos 0)) (rule_of 1_200_000_000 50) ≡ []) ×
-        (windows [] (rule_of 1_200_000_000 50) ≡ [])
+    (windows [] (rule_of 1_200_000_000 50) ≡ [])
 unfolding windows windows_over window_between rms mean_square isqrt root_in boundaries successors
     first_boundary next_boundary rule_of first_between first_of
 silent_windows = (refl, refl, refl)

@@ -1,2 +1,3 @@
+pub mod AllWindows
 pub mod HalfCycleWindow
 pub mod Windows

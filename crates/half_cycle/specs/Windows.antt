@@ -1,32 +1,22 @@
 -- What contracts see of `Windows`: the list of the windows that are left.
-use Rattle.std.specs.Prelude.{◌≡◌, ◌^◌, ◌<◌, ◌≤◌, not, List, [], length, map, ℤ, Option, None, Some, All, IfSome}
-use Rattle.half_cycle.specs.declared.begun.Begun.{Begun}
+use Rattle.std.specs.Prelude.{◌≡◌, ℕ, ◌≤◌, List, [], ◌∷◌, length, ℤ, Option, None, Some, IfSome, MatchOption}
 use Rattle.half_cycle.specs.HalfCycleWindow.{windows_over}
 use Rattle.event_detect.specs.declared.window.Window.{Window}
-use Rattle.zero_cross.specs.declared.rule.Rule.{Rule}
-use Rattle.zero_cross.specs.Boundary.{IsRule, Boundary, boundary_at, boundary_after, next_boundary}
-use Rattle.pq_words.specs.Magnitude.{IsWithin}
-use Rattle.pq_words.specs.Successors.{successors}
+use Rattle.zero_cross.specs.declared.boundary.Boundary.{Boundary}
+use Rattle.zero_cross.specs.Boundary.{AreBoundaries, places_of}
+use Rattle.pq_words.specs.Samples.{AreSamples}
 
--- the windows that begin at this boundary and at those after it
-unfoldable pub windows_from : List ℤ → Rule → Boundary → List Window
-windows_from s rule b = windows_over s (map (λ c. c.place)
-    (successors (boundary_after s rule) (length s) (Some b)))
+-- the windows over the places of two boundaries and of those after them, or none
+abbrev pub windows_left : List ℤ → Option (ℕ × ℕ) → List Boundary → List Window
+windows_left s None later = []
+windows_left s (Some two) later = windows_over s (two.0 ∷ two.1 ∷ places_of later)
 
--- the windows from the one that is begun on, or none
-abbrev pub windows_left : List ℤ → Rule → Option Begun → List Window
-windows_left s rule None = []
-windows_left s rule (Some b) = windows_from s rule (boundary_at b.rising b.start)
+-- the samples are such that roots can be taken, and the boundaries rise within them
+pub record IsSound (s : List ℤ) (next_two : Option (ℕ × ℕ)) (later : List Boundary) : Type 0 where
+  pub samples : AreSamples s
+  pub boundaries : IfSome next_two (λ two. AreBoundaries (two.0 ∷ two.1 ∷ places_of later) (length s))
 
--- a window is begun at a boundary, and the boundary after that one is known
-pub record IsBegun (s : List ℤ) (rule : Rule) (b : Begun) : Type 0 where
-  pub ahead : b.start < b.middle
-  pub inside : b.middle < length s
-  pub middle : next_boundary s rule b.start (not b.rising) ≡ Some b.middle
-
--- the samples and the rule are such that roots and boundaries can be taken, and what is begun is so
-pub record IsSound (s : List ℤ) (rule : Rule) (begun : Option Begun) : Type 0 where
-  pub is_rule : IsRule rule
-  pub short : length s ≤ 50_000_000
-  pub quiet : All (IsWithin (10 ^ 13)) s
-  pub is_begun : IfSome begun (IsBegun s rule)
+-- the places of the first two of some boundaries, and the boundaries after them; None where there are fewer
+abbrev pub AreFirstTwo : List Boundary → List Boundary → Option (ℕ × ℕ) → Type 0
+AreFirstTwo all later next_two =
+    MatchOption next_two (length all ≤ 1) (λ two. places_of all ≡ two.0 ∷ two.1 ∷ places_of later)

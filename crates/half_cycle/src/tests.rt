@@ -1,9 +1,10 @@
 // Worked windows, by hand: 24 samples a cycle at 1200 Hz and 50 Hz.
-ghost use Rattle.std.specs.Prelude.{◌^◌, ◌<◌, All};
+ghost use Rattle.std.specs.Prelude.{◌<◌, All};
 ghost use Rattle.pq_words.specs.Magnitude.{IsWithin};
 
 use crate::Windows;
 use event_detect::Window;
+use pq_words::MOST_MICROVOLTS;
 use std::test::Fail;
 use zero_cross::Rule;
 
@@ -14,7 +15,7 @@ const CYCLE: [i16; 24] = [
 
 // A sine of 32,500 microvolts a count, whose counts are halved at places 264 to 311.
 fn sample(place: usize) -> i64
-    ensures { IsWithin (10 ^ 13) result }
+    ensures { IsWithin MOST_MICROVOLTS result }
 {
     let count = i64::from(CYCLE[place % 24]);
     if 264 <= place && place < 312 {
@@ -25,7 +26,7 @@ fn sample(place: usize) -> i64
 }
 
 fn halved_half_cycles() -> [i64; 552]
-    ensures { All (IsWithin (10 ^ 13)) result }
+    ensures { All (IsWithin MOST_MICROVOLTS) result }
 {
     let mut samples = [0; 552];
     for i in 0..552 {

@@ -1,24 +1,25 @@
 // The windows of a channel, one after another.
-ghost use Rattle.std.specs.Prelude.{◌≡◌, ◌^◌, ◌<◌, ◌≤◌, length, All};
+ghost use Rattle.std.specs.Prelude.{◌≡◌, ◌<◌, ◌≤◌, length};
 ghost use Rattle.std.specs.Iterator.{YieldsFirst, item_count};
 ghost use Rattle.half_cycle.specs.HalfCycleWindow.{window_between, windows};
+ghost use Rattle.half_cycle.specs.Windows.{AreFirstTwo};
 ghost use Rattle.zero_cross.specs.Boundary.{IsRule};
-ghost use Rattle.pq_words.specs.Magnitude.{IsWithin};
+ghost use Rattle.pq_words.specs.Samples.{AreSamples};
 
-use crate::begun::{Begun, begin};
 use event_detect::Window;
 use fixed_rms::rms;
 use std::marker::Model;
-use zero_cross::{Rule, next};
+use zero_cross::{Boundaries, Rule};
 
 /// The half-cycle windows of a channel, in order, each with its root in microvolts (5.4): an
 /// iterator, seen as the list of those that are left. Each root is summed anew.
 #[derive(Drop)]
 pub struct Windows<'a> {
     samples: &'a [i64],
-    rule: Rule,
-    // None where no window is left.
-    begun: Option<Begun>,
+    // The places of the next two boundaries; None where there are fewer.
+    next_two: Option<(u64, u64)>,
+    // The boundaries after them.
+    boundaries: Boundaries<'a>,
 }
 
 impl<'a> Model for Windows<'a> {
@@ -29,24 +30,24 @@ impl<'a> Model for Windows<'a> {
 
     ghost use Rattle.half_cycle.specs.Windows.{windows_left, IsSound};
 
-    ghost view = { λ w. windows_left w.samples.now w.rule w.begun };
+    ghost view = { λ w. windows_left w.samples.now w.next_two w.boundaries };
 
-    ghost invariant = { λ w. IsSound w.samples.now w.rule w.begun };
+    ghost invariant = { λ w. IsSound w.samples.now w.next_two w.boundaries };
 }
 
 impl<'a> Windows<'a> {
     /// The windows of a channel's samples, in microvolts, over the boundaries that the rule finds.
     pub fn new(samples: &'a [i64], rule: Rule) -> Windows<'a>
         requires rule { IsRule rule }
-        requires short { length samples.now ≤ 50_000_000 }
-        requires quiet { All (IsWithin (10 ^ 13)) samples.now }
+        requires samples { AreSamples samples.now }
         ensures { result ≡ windows samples.now rule }
     {
-        let begun = begin(samples, &rule);
+        let mut boundaries = Boundaries::new(samples, rule);
+        let next_two = two_places(&mut boundaries);
         Windows {
             samples,
-            rule,
-            begun,
+            next_two,
+            boundaries,
         }
     }
 }
@@ -59,22 +60,20 @@ impl<'a> Iterator for Windows<'a> {
     ghost remaining = { item_count (λ rest. rest) };
 
     fn next(&mut self) -> Option<Window> {
-        let begun = self.begun?;
-        match next(self.samples, &self.rule, begun.middle, begun.rising) {
-            None => {
-                self.begun = None;
-                None
-            }
-            Some(end) => {
-                self.begun = Some(Begun {
-                    start: begun.middle,
-                    middle: end,
-                    rising: !begun.rising,
-                });
-                Some(window(self.samples, begun.start, end))
-            }
-        }
+        let (start, middle) = self.next_two?;
+        let end = self.boundaries.next()?.place;
+        self.next_two = Some((middle, end));
+        Some(window(self.samples, start, end))
     }
+}
+
+// The places of the first two boundaries that are left, where there are two.
+fn two_places(boundaries: &mut Boundaries<'_>) -> Option<(u64, u64)>
+    ensures { AreFirstTwo boundaries.old boundaries.new result }
+{
+    let start = boundaries.next()?.place;
+    let middle = boundaries.next()?.place;
+    Some((start, middle))
 }
 
 // The window from a place up to another.
@@ -82,8 +81,7 @@ impl<'a> Iterator for Windows<'a> {
 fn window(samples: &[i64], start: u64, end: u64) -> Window
     requires some { start < end }
     requires inside { end ≤ length samples.now }
-    requires short { length samples.now ≤ 50_000_000 }
-    requires quiet { All (IsWithin (10 ^ 13)) samples.now }
+    requires samples { AreSamples samples.now }
     ensures { result ≡ window_between samples.now start end }
 {
     Window {

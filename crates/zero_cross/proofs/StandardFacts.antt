@@ -6,18 +6,21 @@ use Rattle.pq_words.specs.Successors.{successors}
 use Rattle.pq_words.specs.Steps.{numbers_from}
 use Rattle.pq_words.proofs.WorkedSignal.{sine_count, sampled}
 
--- at 1200 Hz and 50 Hz half a cycle is 12 samples, at 1199 Hz too, and at 60 Hz 10
+-- at 1200 Hz and 50 Hz half a cycle is 12 samples, at 1199 Hz too; at 60 Hz it is 10 samples at 1200 Hz, 12
+-- at 1440 Hz and 8 at 960 Hz, the least rate
 pub known_rules : (rule_of 1_200_000_000 50 ≡ record { h = 12; lo = 10; hi = 15 })
-    × (rule_of 1_199_000_000 50 ≡ record { h = 12; lo = 10; hi = 15 }) ×
-        (rule_of 1_200_000_000 60 ≡ record { h = 10; lo = 8; hi = 12 })
+    × (rule_of 1_199_000_000 50 ≡ record { h = 12; lo = 10; hi = 15 })
+    × (rule_of 1_200_000_000 60 ≡ record { h = 10; lo = 8; hi = 12 })
+    × (rule_of 1_440_000_000 60 ≡ record { h = 12; lo = 10; hi = 15 })
+    × (rule_of 960_000_000 60 ≡ record { h = 8; lo = 7; hi = 10 })
 unfolding rule_of
-known_rules = (refl, refl, refl)
+known_rules = (refl, refl, refl, refl, refl)
 
 -- a sine that begins at zero has its first rising crossing at place 24; without that place boundary 0 is
 -- place 0
 pub sine_begins : (first_boundary (sampled sine_count 32_500 49) (rule_of 1_200_000_000 50) ≡ Some 24)
     × (first_boundary (sampled sine_count 32_500 24) (rule_of 1_200_000_000 50) ≡ Some 0) ×
-        (first_boundary [] (rule_of 1_200_000_000 50) ≡ None)
+    (first_boundary [] (rule_of 1_200_000_000 50) ≡ None)
 unfolding first_boundary rule_of first_between first_of sampled sine_count numbers_from
 sine_begins = (refl, refl, refl)
 
@@ -49,7 +52,7 @@ pub places_of_the_next_search : (next_boundary (replicate 10 (pos 1) ++ replicat
     (rule_of 1_200_000_000 50) 0 false ≡ Some 10)
     × (next_boundary (replicate 15 (pos 1) ++ pos 0 ∷ []) (rule_of 1_200_000_000 50) 0 false ≡ Some 15)
     × (next_boundary (replicate 9 (pos 1) ++ replicate 7 (pos 0)) (rule_of 1_200_000_000 50) 0 false
-        ≡ Some 12)
+    ≡ Some 12)
     × (next_boundary (replicate 16 (pos 1) ++ pos 0 ∷ []) (rule_of 1_200_000_000 50) 0 false ≡ Some 12)
 unfolding next_boundary rule_of first_between first_of
 places_of_the_next_search = (refl, refl, refl, refl)
@@ -58,6 +61,6 @@ places_of_the_next_search = (refl, refl, refl, refl)
 pub end_of_the_list : (next_boundary (replicate 10 (pos 1) ++ pos 0 ∷ []) (rule_of 1_200_000_000 50) 0 true
     ≡ None)
     × (next_boundary (replicate 15 (pos 1)) (rule_of 1_200_000_000 50) 0 false ≡ None) ×
-        (next_boundary (replicate 16 (pos 1)) (rule_of 1_200_000_000 50) 0 false ≡ Some 12)
+    (next_boundary (replicate 16 (pos 1)) (rule_of 1_200_000_000 50) 0 false ≡ Some 12)
 unfolding next_boundary rule_of first_between first_of
 end_of_the_list = (refl, refl, refl)

@@ -2,6 +2,8 @@
 ghost use Rattle.std.specs.Prelude.{◌≡◌, ◌⊎◌, ◌*◌, ◌^◌, ◌≤◌};
 ghost use Rattle.zero_cross.specs.Boundary.{rule_of, IsRule};
 
+use pq_words::{LEAST_SAMPLES_IN_CYCLE, MOST_RATE};
+
 /// Half a cycle in samples, and how near and how far the next boundary may be (profile).
 #[derive(Clone, Copy)]
 pub struct Rule {
@@ -14,12 +16,12 @@ pub struct Rule {
 }
 
 impl Rule {
-    /// The rule at a rate in microhertz, from 16 samples a cycle to 200 kHz, and a line frequency of 50 or 60 hertz.
+    /// The rule at a rate in microhertz, within the limits, and a line frequency of 50 or 60 hertz.
     #[tactic(auto, unfolding(crate::specs::Boundary::rule_of))]
     pub fn of(rate: u64, lf: u32) -> Rule
         requires line { (lf ≡ 50) ⊎ (lf ≡ 60) }
-        requires least { 16 * lf * 10 ^ 6 ≤ rate }
-        requires most { rate ≤ 200000000000 }
+        requires least { LEAST_SAMPLES_IN_CYCLE * lf * 10 ^ 6 ≤ rate }
+        requires most { rate ≤ MOST_RATE }
         ensures value { result ≡ rule_of rate lf }
         ensures rule { IsRule result }
     {

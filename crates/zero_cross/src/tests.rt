@@ -1,5 +1,5 @@
 // Worked boundaries, by hand: 24 samples a cycle at 1200 Hz and 50 Hz.
-use crate::{Rule, first, next};
+use crate::{Boundaries, Boundary, Rule, first, next};
 
 const CYCLE: [i64; 24] = [
     0, 2588, 5000, 7071, 8660, 9659, 10000, 9659, 8660, 7071, 5000, 2588, 0, -2588, -5000, -7071,
@@ -34,4 +34,16 @@ fn boundaries_of_worked_signals(rt: HostRuntime) {
     assert_eq!(rt; next(&silence, &rule, 24, false), Some(36));
     assert_eq!(rt; next(&silence, &rule, 36, true), None);
     assert_eq!(rt; first(&[], &rule), None);
+}
+
+#[test]
+fn boundaries_one_after_another(rt: HostRuntime) {
+    let rule = Rule::of(1_200_000_000, 50);
+    let silence = [0; 39];
+    let mut boundaries = Boundaries::new(&silence, rule);
+    for (place, rising) in [(0, true), (12, false), (24, true)] {
+        assert_eq!(rt; boundaries.next(), Some(Boundary { place, rising }));
+    }
+    assert_eq!(rt; boundaries.next(), None);
+    assert_eq!(rt; boundaries.next(), None);
 }

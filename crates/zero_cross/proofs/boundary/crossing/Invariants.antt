@@ -3,5 +3,5 @@ use Rattle.pq_words.specs.First.{Nowhere}
 use Rattle.zero_cross.proofs.boundary.crossing.Given as goal
 
 -- no place before the one at hand crosses
-abbrev pub invariant-loop-i : goal.invariant-loop-i
-invariant-loop-i l = Nowhere (crosses_at l.s l.rising) l.low l.i
+abbrev pub invariant-loop-place : goal.invariant-loop-place
+invariant-loop-place l = Nowhere (crosses_at l.samples l.rising) l.low l.place
