@@ -45,7 +45,7 @@ strip_ended line =
     let zero : length line + 0 ≡ length line = omega arith in
     ap (λ k. cond (get_or (line ++ 13 ∷ []) k 0 == 13) (take k (line ++ 13 ∷ [])) (line ++ 13 ∷ [])) n
     ∙ ap (λ c. cond (c == 13) (take (length line) (line ++ 13 ∷ [])) (line ++ 13 ∷ []))
-        (ap (λ k. get_or (line ++ 13 ∷ []) k 0) (sym zero) ∙ last)
+    (ap (λ k. get_or (line ++ 13 ∷ []) k 0) (sym zero) ∙ last)
     ∙ take-append-le (length line) line (13 ∷ []) (omega arith) ∙ take_all (length line) line (omega arith)
 
 -- lines with their carriage returns, and nothing, are the lines
@@ -64,13 +64,13 @@ pub record IsTrim (text : Text) : Type 0 where
 pub trim_same : (text : Text) → IsTrim text → trimmed text ≡ text
 trim_same text h =
     let front : prefix_len is_blank text ≡ 0 = prefix_len_is is_blank text 0 0 (omega arith)
-        (λ k l. absurd (omega (arith, l))) h.front in
+    (λ k l. absurd (omega (arith, l))) h.front in
     let back : suffix_len is_blank text ≡ length text - length text =
-        suffix_len_is is_blank text (length text) 0 (omega arith) (λ k l m. absurd (omega (arith, l, m)))
-        h.back in
+    suffix_len_is is_blank text (length text) 0 (omega arith) (λ k l m. absurd (omega (arith, l, m)))
+    h.back in
     let whole : length text ≤ length text - suffix_len is_blank text = omega (arith, back) in
     ap (λ k. take (length (drop k text) - suffix_len is_blank (drop k text)) (drop k text)) front
-        ∙ take_all (length text - suffix_len is_blank text) text whole
+    ∙ take_all (length text - suffix_len is_blank text) text whole
 
 -- a field as a cfg may have it: it holds no comma and no line feed, and no blank stands at its ends
 pub record IsField (text : Text) : Type 0 where

@@ -8,6 +8,7 @@ use Rattle.pq_words.specs.FirstFault.{◌>>=◌, provided}
 use Rattle.pq_words.proofs.ReadingLemmas.{provided_ok, some_ok}
 use Rattle.pq_base.specs.declared.decimal.Scaled.{Scaled}
 use Rattle.pq_base.specs.Decimal.{decimal_of, shifted}
+use Rattle.std.specs.List.{list_any}
 use Rattle.cfg_fields.specs.declared.fault.CfgFault.{CfgFault}
 use Rattle.cfg_fields.specs.declared.fault.CfgFault.TheVariants as fault
 use Rattle.cfg_fields.specs.declared.fault.Quantity.{Quantity}
@@ -46,6 +47,14 @@ among n a b (inr h) = at (n == a) (eq-eqb n b h)
 not_true : (b : Bool) → not b ≡ true → b ≡ false
 not_true true e = absurd cc
 not_true false e = refl
+
+-- a text field that was read
+pub text_found : (line field : ℕ) (text value : Text) → text_field line field text ≡ Ok value
+    → IsTextField text
+unfolding text_field
+text_found line field text value e =
+    not_true (list_any (λ c. c == 13) text)
+    (provided_ok (not (list_any (λ c. c == 13) text)) (fault.Field line field) text value e).0
 
 -- a text field that was read, for what is shown of it and of what came after it
 pub text_step : {B : Type 0} (line field : ℕ) (text : Text) (f : Text → Result B CfgFault) (y : B) →
@@ -88,7 +97,7 @@ pub position_again : (position line field : ℕ) (text : Text) → number text �
 unfolding position_field
 position_again position line field text h =
     goes (number_field line field text) _ position (number_again line field text position h)
-        ∙ ap (λ b. provided b (fault.Field line field) position) (eq-eqb position position refl)
+    ∙ ap (λ b. provided b (fault.Field line field) position) (eq-eqb position position refl)
 
 -- a Decimal that was read
 pub decimal_found : (line field : ℕ) (text : Text) (x : Scaled) → decimal_field line field text ≡ Ok x →
@@ -118,7 +127,7 @@ pub spelling_found : (line field : ℕ) (text value : Text) → decimal_text lin
 unfolding decimal_text
 spelling_found line field text value e =
     from_bind (decimal_field line field text) _ value e
-        (λ x x_is same. (is_there (decimal_of text) x (decimal_found line field text x x_is), same_ok same))
+    (λ x x_is same. (is_there (decimal_of text) x (decimal_found line field text x x_is), same_ok same))
 
 -- the same, for what is shown of it and of what came after it
 pub spelling_step : {B : Type 0} (line field : ℕ) (text : Text) (f : Text → Result B CfgFault) (y : B) →
@@ -126,7 +135,7 @@ pub spelling_step : {B : Type 0} (line field : ℕ) (text : Text) (f : Text → 
     (IsSome (decimal_of text) → f text ≡ Ok y → P) → P
 spelling_step line field text f y e g =
     from_bind (decimal_text line field text) f y e (λ value is e. let d =
-        spelling_found line field text value is in g d.0 (ap f d.1 ∙ e))
+    spelling_found line field text value is in g d.0 (ap f d.1 ∙ e))
 
 -- a Decimal is read with its spelling
 pub spelling_again : (line field : ℕ) (text : Text) → IsSome (decimal_of text) → decimal_text line field text
@@ -144,9 +153,10 @@ pub count_found : (capital : ℕ) (what : Quantity) (line field : ℕ) (text : T
 unfolding channel_count
 count_found capital what line field text n e =
     from_bind (field_or_fault line field (lettered capital text)) _ n e (λ k k_is e.
-    let p = provided_ok (nat_le k 999) (fault.Limit what line) k n e in
-    (some_ok (lettered capital text) (fault.Field line field) k k_is ∙ ap Some p.1,
-        subst (λ n. n ≤ 999) p.1 (leb-true k 999 p.0)))
+    let p = provided_ok (nat_le k 999) (fault.Limit what line) k n e in (
+      some_ok (lettered capital text) (fault.Field line field) k k_is ∙ ap Some p.1,
+      subst (λ n. n ≤ 999) p.1 (leb-true k 999 p.0),
+    ))
 
 -- a number of channels is read as such
 pub count_again : (capital : ℕ) (what : Quantity) (line field : ℕ) (text : Text) (n : ℕ) →
@@ -154,7 +164,7 @@ pub count_again : (capital : ℕ) (what : Quantity) (line field : ℕ) (text : T
 unfolding channel_count
 count_again capital what line field text n h few =
     goes (field_or_fault line field (lettered capital text)) _ n (ap (λ o. field_or_fault line field o) h)
-        ∙ ap (λ b. provided b (fault.Limit what line) n) (le-leb n 999 few)
+    ∙ ap (λ b. provided b (fault.Limit what line) n) (le-leb n 999 few)
 
 -- which microhertz give a line frequency
 frequency_from : (z : ℤ) (n : ℕ) → frequency_of z ≡ Some n → (z ≡ pos (n * 10 ^ 6)) × ((n ≡ 50) ⊎ (n ≡ 60))
@@ -162,10 +172,16 @@ frequency_from (pos k) n e = at (k == 50000000) (k == 60000000) refl refl e
   where
     at : (a b : Bool) → (k == 50000000) ≡ a → (k == 60000000) ≡ b → cond a (Some 50) (cond b (Some 60) None)
         ≡ Some n → (pos k ≡ pos (n * 10 ^ 6)) × ((n ≡ 50) ⊎ (n ≡ 60))
-    at true b p q e = let same : 50 ≡ n = cc in (ap pos (eqb-true k 50000000 p)
-        ∙ ap (λ n. pos (n * 10 ^ 6)) same, inl (sym same))
-    at false true p q e = let same : 60 ≡ n = cc in (ap pos (eqb-true k 60000000 q)
-        ∙ ap (λ n. pos (n * 10 ^ 6)) same, inr (sym same))
+    at true b p q e = let same : 50 ≡ n = cc in (
+      ap pos (eqb-true k 50000000 p)
+          ∙ ap (λ n. pos (n * 10 ^ 6)) same,
+      inl (sym same),
+    )
+    at false true p q e = let same : 60 ≡ n = cc in (
+      ap pos (eqb-true k 60000000 q)
+          ∙ ap (λ n. pos (n * 10 ^ 6)) same,
+      inr (sym same),
+    )
     at false false p q e = absurd cc
 frequency_from (negsuc k) n e = absurd cc
 
@@ -191,7 +207,7 @@ frequency_again line field text n h known =
     let d = mapped_some (λ (x : Scaled). shifted x 6) (decimal_of text) (pos (n * 10 ^ 6)) h in
     goes (decimal_field line field text) _ d.0 (decimal_again line field text d.0 d.1)
     ∙ ap (λ o. ok_or o (fault.Unsupported unsupported.Frequency line))
-        (ap frequency_of d.2 ∙ frequency_known n known)
+    (ap frequency_of d.2 ∙ frequency_known n known)
 
 -- which microhertz give a rate
 rate_from : (lf : ℕ) (z : ℤ) (n : ℕ) → rate_of lf z ≡ Some n → (z ≡ pos n) × IsTrue (is_rate lf n)
@@ -220,7 +236,7 @@ rate_again lf line field text n h within =
     let d = mapped_some (λ (x : Scaled). shifted x 6) (decimal_of text) (pos n) h in
     goes (decimal_field line field text) _ d.0 (decimal_again line field text d.0 d.1)
     ∙ ap (λ o. ok_or o (fault.Limit quantity.Rate line))
-        (ap (rate_of lf) d.2 ∙ ap (λ b. cond b (Some n) None) within)
+    (ap (rate_of lf) d.2 ∙ ap (λ b. cond b (Some n) None) within)
 
 -- a number of samples that was read
 pub samples_found : (line field : ℕ) (text : Text) (n : ℕ) → samples_field line field text ≡ Ok n →
@@ -228,9 +244,10 @@ pub samples_found : (line field : ℕ) (text : Text) (n : ℕ) → samples_field
 unfolding samples_field
 samples_found line field text n e =
     from_bind (number_field line field text) _ n e (λ k k_is e.
-    let p = provided_ok (nat_le k 50000000) (fault.Limit quantity.Samples line) k n e in
-    (number_found line field text k k_is ∙ ap Some p.1,
-        subst (λ n. n ≤ 50000000) p.1 (leb-true k 50000000 p.0)))
+    let p = provided_ok (nat_le k 50000000) (fault.Limit quantity.Samples line) k n e in (
+      number_found line field text k k_is ∙ ap Some p.1,
+      subst (λ n. n ≤ 50000000) p.1 (leb-true k 50000000 p.0),
+    ))
 
 -- a number of samples is read as such
 pub samples_again : (line field : ℕ) (text : Text) (n : ℕ) → number text ≡ Some n → n ≤ 50000000 →
@@ -238,7 +255,7 @@ pub samples_again : (line field : ℕ) (text : Text) (n : ℕ) → number text �
 unfolding samples_field
 samples_again line field text n h few =
     goes (number_field line field text) _ n (number_again line field text n h)
-        ∙ ap (λ b. provided b (fault.Limit quantity.Samples line) n) (le-leb n 50000000 few)
+    ∙ ap (λ b. provided b (fault.Limit quantity.Samples line) n) (le-leb n 50000000 few)
 
 -- a leap second field that was read
 pub leap_found : (line field : ℕ) (text : Text) (n : ℕ) → leap_field line field text ≡ Ok n →
@@ -246,9 +263,10 @@ pub leap_found : (line field : ℕ) (text : Text) (n : ℕ) → leap_field line 
 unfolding leap_field
 leap_found line field text n e =
     from_bind (field_or_fault line field (leap_digit text)) _ n e (λ k k_is e.
-    let p = provided_ok ((k == 0) || (k == 3)) (fault.Unsupported unsupported.LeapSecond line) k n e in
-    (some_ok (leap_digit text) (fault.Field line field) k k_is ∙ ap Some p.1,
-        subst (λ n. (n ≡ 0) ⊎ (n ≡ 3)) p.1 (one_of k 0 3 p.0)))
+    let p = provided_ok ((k == 0) || (k == 3)) (fault.Unsupported unsupported.LeapSecond line) k n e in (
+      some_ok (leap_digit text) (fault.Field line field) k k_is ∙ ap Some p.1,
+      subst (λ n. (n ≡ 0) ⊎ (n ≡ 3)) p.1 (one_of k 0 3 p.0),
+    ))
 
 -- a leap second field is read as such
 pub leap_again : (line field : ℕ) (text : Text) (n : ℕ) → leap_digit text ≡ Some n → (n ≡ 0) ⊎ (n ≡ 3) →
@@ -256,4 +274,4 @@ pub leap_again : (line field : ℕ) (text : Text) (n : ℕ) → leap_digit text 
 unfolding leap_field
 leap_again line field text n h known =
     goes (field_or_fault line field (leap_digit text)) _ n (ap (λ o. field_or_fault line field o) h)
-        ∙ ap (λ b. provided b (fault.Unsupported unsupported.LeapSecond line) n) (among n 0 3 known)
+    ∙ ap (λ b. provided b (fault.Unsupported unsupported.LeapSecond line) n) (among n 0 3 known)

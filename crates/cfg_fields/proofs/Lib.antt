@@ -1,5 +1,6 @@
 pub mod LineLemmas
 pub mod ReadingLaws
+pub mod FaultLines
 pub mod WrittenFacts
 pub mod FieldTexts
 pub mod ReadBackNumbers

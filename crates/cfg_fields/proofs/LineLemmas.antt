@@ -15,17 +15,17 @@ parts_before x (y ∷ more) l = refl
 -- stands after it
 pub lines_cut : (text : Text) (i : ℕ) → position (λ b. b == 10) text ≡ Some i
     → lines text ≡ strip_carriage_return (take i text) ∷ lines
-        (take (length text - (i + 1)) (drop (i + 1) text))
+    (take (length text - (i + 1)) (drop (i + 1) text))
 lines_cut text i e =
     let rest = take (length text - (i + 1)) (drop (i + 1) text) in
     ap lines_of_parts (parts_cut 10 text i e) ∙ parts_before (take i text) (parted_at 10 rest)
-        (omega (arith, some_part 10 rest))
+    (omega (arith, some_part 10 rest))
 
 -- and where it is not, the text is the one line
 pub last_line : (text : Text) → 0 < length text → position (λ b. b == 10) text ≡ None → lines text ≡ text ∷ []
 last_line text some e =
     ap lines_of_parts (one_part 10 text e) ∙ ap (λ t. cond t [] (text ∷ []))
-        (ne_eqb (length text) 0 (λ z. omega arith))
+    (ne_eqb (length text) 0 (λ z. omega arith))
 
 -- no text has no line
 pub no_line : (text : Text) → length text ≡ 0 → lines text ≡ []

@@ -32,9 +32,9 @@ pub digits_back : (least most : ℕ) (text : Text) (n : ℕ) → least ≤ lengt
 digits_back least most text n enough few digits value =
     ap (λ b. cond b (Some (digits_value 10 text)) None)
     (and_from (nat_le least (length text)) (nat_le (length text) most && list_all is_ascii_digit text)
-        (le-leb least (length text) enough)
+    (le-leb least (length text) enough)
     (and_from (nat_le (length text) most) (list_all is_ascii_digit text) (le-leb (length text) most few)
-        digits))
+    digits))
     ∙ ap Some value
 
 digit_of_rest : (n : ℕ) → (is_ascii_digit (48 + n % 10) ≡ true) × (digit_value (48 + n % 10) ≡ n % 10)
@@ -53,7 +53,7 @@ padded_digits zero n = refl
 padded_digits (suc k) n =
     list_all-append is_ascii_digit (padded k (n / 10)) ((48 + n % 10) ∷ [])
     ∙ and_from (list_all is_ascii_digit (padded k (n / 10))) (is_ascii_digit (48 + n % 10) && true)
-        (padded_digits k (n / 10)) (and_from (is_ascii_digit (48 + n % 10)) true (digit_of_rest n).0 refl)
+    (padded_digits k (n / 10)) (and_from (is_ascii_digit (48 + n % 10)) true (digit_of_rest n).0 refl)
 
 -- the number that its digits write after those of another
 pub padded_after : (k front n : ℕ) → n < 10 ^ k → digits_value_after 10 front (padded k n)
@@ -64,7 +64,7 @@ padded_after (suc k) front n small =
     let less : n / 10 < 10 ^ k = omega (arith, small, power) in
     let digit : digit_value (48 + n % 10) ≡ n % 10 = (digit_of_rest n).1 in
     let front_value : digits_value_after 10 front (padded k (n / 10)) ≡ front * 10 ^ k + n / 10 =
-        padded_after k front (n / 10) less in
+    padded_after k front (n / 10) less in
     digits_joined front (padded k (n / 10)) ((48 + n % 10) ∷ [])
     ∙ omega (arith, front_value, digit, ap (λ p. front * p) power)
 
@@ -77,7 +77,7 @@ pub padded_within : (least most k n : ℕ) → least ≤ k → k ≤ most → n 
     digits_between least most (padded k n) ≡ Some n
 padded_within least most k n enough few small =
     digits_back least most (padded k n) n (omega (arith, length-padded k n, enough))
-        (omega (arith, length-padded k n, few)) (padded_digits k n) (padded_after k 0 n small ∙ omega arith)
+    (omega (arith, length-padded k n, few)) (padded_digits k n) (padded_after k 0 n small ∙ omega arith)
 
 -- ---- a number without leading zeros
 
@@ -88,7 +88,7 @@ pub decimal_within : (most n : ℕ) → 0 < most → n < 10 ^ most → n < 2 ^ 6
     ≡ Some n
 decimal_within most n some small fits =
     digits_back 1 most (decimal n) n (decimal_is_IsNumeral n fits).0.0
-        (length-decimal-le most n some small fits) (decimal_digits n fits) (decimal_is_IsNumeral n fits).1
+    (length-decimal-le most n some small fits) (decimal_digits n fits) (decimal_is_IsNumeral n fits).1
 
 pub number_back : (n : ℕ) → n < 10 ^ 10 → number (decimal n) ≡ Some n
 number_back n small = decimal_within 10 n (omega arith) small (omega (arith, small))
@@ -99,18 +99,18 @@ pub lettered_back : (capital n : ℕ) → n < 10 ^ 10 → lettered capital (deci
 lettered_back capital n small =
     let text : Text = decimal n ++ capital ∷ [] in
     let size : length text - 1 ≡ length (decimal n) =
-        omega (arith, length-append (decimal n) (capital ∷ [])) in
+    omega (arith, length-append (decimal n) (capital ∷ [])) in
     let zero : length (decimal n) + 0 ≡ length (decimal n) = omega arith in
     let last : get_or text (length (decimal n)) 0 ≡ capital = ap (λ k. get_or text k 0) (sym zero)
-        ∙ get_or-append-add (decimal n) (capital ∷ []) 0 0 in
+    ∙ get_or-append-add (decimal n) (capital ∷ []) 0 0 in
     let front : take (length (decimal n)) text ≡ decimal n =
-        take-append-le (length (decimal n)) (decimal n) (capital ∷ []) (omega arith)
-        ∙ take_all (length (decimal n)) (decimal n) (omega arith) in
+    take-append-le (length (decimal n)) (decimal n) (capital ∷ []) (omega arith)
+    ∙ take_all (length (decimal n)) (decimal n) (omega arith) in
     let same : (capital == capital) ≡ true = eq-eqb capital capital refl in
     ap (λ k. cond ((get_or text k 0 == capital) || (get_or text k 0 == capital + 32)) (number (take k text))
-        None) size
+    None) size
     ∙ ap (λ c. cond ((c == capital) || (c == capital + 32)) (number (take (length (decimal n)) text)) None)
-        last
+    last
     ∙ ap (λ b. cond (b || (capital == capital + 32)) (number (take (length (decimal n)) text)) None) same
     ∙ ap number front ∙ number_back n small
 
@@ -132,9 +132,11 @@ plain_free [] h = (refl, refl)
 plain_free (c ∷ text) h =
     let p = and_parts (is_plain c) (list_all is_plain text) h in
     let t = plain_tests c p.0 in
-    let more = plain_free text p.1 in
-    (ap (λ b. b || list_any (λ b. b == 44) text) t.0 ∙ more.0, ap (λ b. b || list_any (λ b. b == 10) text) t.1
-        ∙ more.1)
+    let more = plain_free text p.1 in (
+      ap (λ b. b || list_any (λ b. b == 44) text) t.0 ∙ more.0,
+      ap (λ b. b || list_any (λ b. b == 10) text) t.1
+          ∙ more.1,
+    )
 
 plain_at : (text : Text) (i : ℕ) → i < length text → IsPlain text → is_blank (get_or text i 0) ≡ false
 plain_at [] i inside h = absurd (omega (arith, inside))
@@ -147,8 +149,11 @@ pub plain_field : (text : Text) → IsPlain text → IsField text
 plain_field text h = record {
   comma = (plain_free text h).0;
   line_feed = (plain_free text h).1;
-  trim = record { front = λ some. plain_at text 0 some h; back =
-      λ some. plain_at text (length text - 1) (omega (arith, some)) h };
+  trim = record {
+    front = λ some. plain_at text 0 some h;
+    back =
+        λ some. plain_at text (length text - 1) (omega (arith, some)) h;
+  };
 }
 
 plain_digit : (c : ℕ) → is_ascii_digit c ≡ true → is_plain c ≡ true

@@ -2,7 +2,7 @@
 use Rattle.std.proofs.Common.{◌≡◌, [], ◌∷◌, ◌++◌, map, refl, pos, negsuc, Some, None, Ok, Err}
 use Rattle.std.specs.Prelude.{codes}
 use Rattle.pq_base.specs.Decimal.{decimal_of}
-use Rattle.pq_time.specs.Written.{date_of, time_of, code_of, minutes_of}
+use Rattle.pq_time.specs.Written.{date_of, clock_time_of as time_of, code_of, minutes_of}
 use Rattle.pq_time.specs.Moment.{written_moment}
 use Rattle.cfg_fields.specs.declared.fault.CfgFault.TheVariants as fault
 use Rattle.cfg_fields.specs.declared.fault.Quantity.TheVariants as quantity
@@ -45,7 +45,7 @@ positions = refl
 pub counts : map (channel_count 65 quantity.Analogue 2 2)
     (codes "1A" ∷ codes "1a" ∷ codes "999A" ∷ codes "1000A" ∷ codes "1D" ∷ codes "A" ∷ [])
     ≡ Ok 1 ∷ Ok 1 ∷ Ok 999 ∷ Err (fault.Limit quantity.Analogue 2) ∷ Err (fault.Field 2 2) ∷ Err
-        (fault.Field 2 2) ∷ []
+    (fault.Field 2 2) ∷ []
 unfolding channel_count
 counts = refl
 
@@ -60,7 +60,7 @@ frequencies = refl
 pub rates : map (rate_field 50 6 1) (codes "1200" ∷ codes "799.9999995" ∷ codes "799.9999994" ∷ codes
     "200000.0000004" ∷ codes "200000.0000005" ∷ [])
     ≡ Ok 1200000000 ∷ Ok 800000000 ∷ Err (fault.Limit quantity.Rate 6) ∷ Ok 200000000000 ∷ Err
-        (fault.Limit quantity.Rate 6) ∷ []
+    (fault.Limit quantity.Rate 6) ∷ []
 unfolding decimal_of decimal_field rate_field
 rates = refl
 

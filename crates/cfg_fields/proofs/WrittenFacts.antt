@@ -11,7 +11,7 @@ use Rattle.std.proofs.lemmas.Bool.Decides.{nat_tests}
 use Rattle.std.proofs.lemmas.Int.{ints}
 use Rattle.pq_words.specs.Text.{Text, parted_at, digits_between}
 use Rattle.pq_words.specs.Magnitude.{IsWithin}
-use Rattle.pq_time.specs.Written.{CivilDate, TimeOfDay, is_civil_date, is_time_of_day, where_passes, date_of, date_of_parts, time_of, time_of_parts, second_of, nanoseconds_of, minutes_of_numbers, minutes_of_parts, minutes_of, code_of}
+use Rattle.pq_time.specs.Written.{CivilDate, TimeOfDay, is_civil_date, is_time_of_day, where_passes, date_of, date_of_parts, clock_time_of as time_of, time_of_parts, second_of, nanoseconds_of, minutes_of_numbers, minutes_of_parts, minutes_of, code_of}
 use Rattle.pq_time.proofs.WrittenLemmas.{scaled_small}
 
 -- what passed a test
@@ -26,7 +26,7 @@ where_passed {A} test x y e = at (test x) refl e
 -- the digits that were read
 pub digits_read : (least most : ℕ) (text : Text) (n : ℕ) → digits_between least most text ≡ Some n
     → (least ≤ length text) × (length text ≤ most) × (list_all is_ascii_digit text ≡ true) ×
-        (digits_value 10 text ≡ n)
+    (digits_value 10 text ≡ n)
 digits_read least most text n e = at (nat_le least (length text)) (nat_le (length text) most)
     (list_all is_ascii_digit text) refl refl refl e
   where
@@ -34,7 +34,7 @@ digits_read least most text n e = at (nat_le least (length text)) (nat_le (lengt
         list_all is_ascii_digit text ≡ c
         → cond (a && (b && c)) (Some (digits_value 10 text)) None ≡ Some n
         → (least ≤ length text) × (length text ≤ most) × (list_all is_ascii_digit text ≡ true) ×
-            (digits_value 10 text ≡ n)
+        (digits_value 10 text ≡ n)
     at true true true l m d e = (leb-true least (length text) l, leb-true (length text) most m, d, cc)
     at true true false l m d e = absurd cc
     at true false c l m d e = absurd cc
@@ -65,10 +65,10 @@ date_of_parts_civil (a ∷ []) d e = absurd cc
 date_of_parts_civil (a ∷ b ∷ []) d e = absurd cc
 date_of_parts_civil (a ∷ b ∷ c ∷ []) d e =
     option_and_then_some {A = ℕ} _ (digits_between 1 2 a) d e
-        (λ day day_is e. option_and_then_some {A = ℕ} _ (digits_between 1 2 b) d e (λ month month_is e.
+    (λ day day_is e. option_and_then_some {A = ℕ} _ (digits_between 1 2 b) d e (λ month month_is e.
     option_and_then_some {A = ℕ} _ (digits_between 4 4 c) d e
-        (λ year year_is e. (where_passed is_civil_date (record { year = year; month = month; day = day }) d
-        e).0)))
+    (λ year year_is e. (where_passed is_civil_date (record { year = year; month = month; day = day }) d
+    e).0)))
 date_of_parts_civil (a ∷ b ∷ c ∷ f ∷ more) d e = absurd cc
 
 -- the calendar has a date that was read, from 1900 to 2199
@@ -87,8 +87,12 @@ nanoseconds_small text n e = at (digits_between 1 9 text) refl e
     at (Some k) is e =
         let d = digits_read 1 9 text k is in
         let same : k * 10 ^ (9 - length text) ≡ n = cc in
-        omega (arith, same, scaled_small k (length text) (10 ^ (9 - length text)) d.1
-            (digits_small 1 9 text k is) refl)
+        omega (
+          arith,
+          same,
+          scaled_small k (length text) (10 ^ (9 - length text)) d.1
+              (digits_small 1 9 text k is) refl,
+        )
 
 -- a value that was mapped from one
 pub mapped_some : {A B : Type 0} (f : A → B) (o : Option A) (y : B) → option_map f o ≡ Some y → (x : A) ×
@@ -122,10 +126,14 @@ time_of_parts_clock (a ∷ []) t e = absurd cc
 time_of_parts_clock (a ∷ b ∷ []) t e = absurd cc
 time_of_parts_clock (a ∷ b ∷ c ∷ []) t e =
     option_and_then_some {A = ℕ} _ (digits_between 1 2 a) t e
-        (λ hour hour_is e. option_and_then_some {A = ℕ} _ (digits_between 1 2 b) t e (λ minute minute_is e.
+    (λ hour hour_is e. option_and_then_some {A = ℕ} _ (digits_between 1 2 b) t e (λ minute minute_is e.
     option_and_then_some {A = ℕ × ℕ} _ (second_of (parted_at 46 c)) t e (λ second second_is e.
-    let w = where_passed is_time_of_day (record { hour = hour; minute = minute; second = second.0;
-        nanosecond = second.1 }) t e in
+    let w = where_passed is_time_of_day (record {
+      hour = hour;
+      minute = minute;
+      second = second.0;
+      nanosecond = second.1;
+    }) t e in
     let p = and_parts (nat_lt t.hour 24) (nat_lt t.minute 60 && nat_lt t.second 60) w.0 in
     let q = and_parts (nat_lt t.minute 60) (nat_lt t.second 60) p.1 in
     let same : second.1 ≡ t.nanosecond = ap (λ (t : TimeOfDay). t.nanosecond) w.1 in
@@ -160,8 +168,8 @@ parts_small (a ∷ []) m e = option_and_then_some {A = ℕ} _ (digits_between 1 
     (λ h h_is e. numbers_small h 0 m e)
 parts_small (a ∷ b ∷ []) m e =
     option_and_then_some {A = ℕ} _ (digits_between 1 2 a) m e
-        (λ h h_is e. option_and_then_some {A = ℕ} _ (digits_between 2 2 b) m e
-        (λ k k_is e. numbers_small h k m e))
+    (λ h h_is e. option_and_then_some {A = ℕ} _ (digits_between 2 2 b) m e
+    (λ k k_is e. numbers_small h k m e))
 parts_small (a ∷ b ∷ c ∷ more) m e = absurd cc
 
 minutes_small : (text : Text) (m : ℕ) → minutes_of text ≡ Some m → m ≤ 899

@@ -6,6 +6,7 @@ use Rattle.std.specs.List.{list_any}
 use Rattle.std.specs.Char.{digit_value}
 use Rattle.std.specs.Str.{str_eq_ignore_ascii_case}
 use Rattle.std.specs.Str.Lines.{lines}
+use Rattle.pq_words.specs.declared.limits.TheConstants.{LEAST_SAMPLES_IN_CYCLE, MOST_RATE, MOST_SAMPLES}
 use Rattle.pq_words.specs.Text.{Text, trimmed, parted_at, number, is_all_blank}
 use Rattle.pq_words.specs.FirstFault.{◌>>=◌, provided, GivesUnless}
 use Rattle.pq_base.specs.declared.decimal.Scaled.{Scaled}
@@ -13,15 +14,28 @@ use Rattle.pq_base.specs.Decimal.{decimal_of, shifted}
 use Rattle.pq_time.specs.declared.bad_moment.BadMoment.{BadMoment}
 use Rattle.pq_time.specs.declared.bad_moment.BadMoment.TheVariants as bad
 use Rattle.pq_time.specs.Written.{code_of}
+use Rattle.cfg_fields.specs.declared.limits.TheConstants.{MOST_CHANNELS}
 use Rattle.cfg_fields.specs.declared.fault.CfgFault.{CfgFault}
 use Rattle.cfg_fields.specs.declared.fault.CfgFault.TheVariants as fault
 use Rattle.cfg_fields.specs.declared.fault.Quantity.{Quantity}
 use Rattle.cfg_fields.specs.declared.fault.Quantity.TheVariants as quantity
 use Rattle.cfg_fields.specs.declared.fault.Unsupported.TheVariants as unsupported
 
--- what reading a part of a cfg may answer: the value, seen by view, the first fault, or want of memory
-abbrev pub Gives : {X Y : Type 0} → (X → Y) → Result X CfgFault → Result Y CfgFault → Type 0
-Gives view result read = GivesUnless fault.OutOfMemory view result read
+-- what reading a part of a cfg may answer: the value, the first fault, or want of memory
+abbrev pub Gives : {X : Type 0} → Result X CfgFault → Result X CfgFault → Type 0
+Gives result read = GivesUnless fault.OutOfMemory (λ x. x) result read
+
+-- the same of a value that is seen by a view
+abbrev pub GivesView : {X Y : Type 0} → (X → Y) → Result X CfgFault → Result Y CfgFault → Type 0
+GivesView view result read = GivesUnless fault.OutOfMemory view result read
+
+-- the line at which a fault is, from 1; 0 where it is at none
+abbrev pub line_of_fault : CfgFault → ℕ
+line_of_fault (fault.Line number) = number
+line_of_fault (fault.Field line field) = line
+line_of_fault (fault.Unsupported what line) = line
+line_of_fault (fault.Limit what line) = line
+line_of_fault fault.OutOfMemory = 0
 
 -- what lies ahead in a cfg: the number of the next line, from 1, and the lines from there on
 pub record Ahead : Type 0 where
@@ -53,11 +67,22 @@ line_of number (line ∷ lines) = Ok (line, record { number = number + 1; lines 
 abbrev pub next_line : Ahead → Reading Text
 next_line ahead = line_of ahead.number ahead.lines
 
+-- a line by its number, from 1, and its fields
+pub record NumberedFields : Type 0 where
+  pub number : ℕ
+  pub fields : List Text
+
+-- the next line by its number and its fields
+abbrev pub fields_line : Ahead → Reading NumberedFields
+fields_line ahead = do
+  line ← next_line ahead
+  Ok (record { number = ahead.number; fields = fields_of line.0 }, line.1)
+
 -- the next line by its rule
 abbrev pub on_line : {A : Type 0} → LineRule A → Ahead → Reading A
 on_line rule ahead = do
-  line ← next_line ahead
-  x ← rule ahead.number (fields_of line.0)
+  line ← fields_line ahead
+  x ← rule line.0.number line.0.fields
   Ok (x, line.1)
 
 -- after the last line stand lines that hold nothing but blanks, or else the first other one is a fault
@@ -102,11 +127,11 @@ lettered capital text =
     let last = slice_index text (length text - 1) in
     if (last == capital) || (last == capital + 32) then number (take (length text - 1) text) else None
 
--- a number of channels with its letter, at most 999
+-- a number of channels with its letter, at most so many
 unfoldable pub channel_count : ℕ → Quantity → ℕ → ℕ → Text → Result ℕ CfgFault
 channel_count capital what line field text = do
   n ← field_or_fault line field (lettered capital text)
-  provided (nat_le n 999) (fault.Limit what line) n
+  provided (nat_le n MOST_CHANNELS) (fault.Limit what line) n
 
 -- fifty or sixty hertz from whole microhertz
 abbrev pub frequency_of : ℤ → Option ℕ
@@ -121,7 +146,7 @@ frequency_field line field text = do
 
 -- a rate in microhertz is within the limits, which go by the line frequency
 abbrev pub is_rate : ℕ → ℕ → Bool
-is_rate lf rate = nat_le (16 * lf * 10 ^ 6) rate && nat_le rate 200000000000
+is_rate lf rate = nat_le (LEAST_SAMPLES_IN_CYCLE * lf * 10 ^ 6) rate && nat_le rate MOST_RATE
 
 -- a rate in whole microhertz, where it is within the limits
 abbrev pub rate_of : ℕ → ℤ → Option ℕ
@@ -138,7 +163,7 @@ rate_field lf line field text = do
 unfoldable pub samples_field : ℕ → ℕ → Text → Result ℕ CfgFault
 samples_field line field text = do
   n ← number_field line field text
-  provided (nat_le n 50000000) (fault.Limit quantity.Samples line) n
+  provided (nat_le n MOST_SAMPLES) (fault.Limit quantity.Samples line) n
 
 -- the field that isn't readable: the date is field 1, the time field 2
 abbrev pub moment_fields : ℕ → Result ℤ BadMoment → Result ℤ CfgFault

@@ -1,3 +1,4 @@
 pub mod Fields
 pub mod Cursor
 pub mod FieldGrammar
+pub mod FieldLaws

@@ -17,8 +17,6 @@ pub enum Unsupported {
     FileType,
     /// A recording that announces a leap second.
     LeapSecond,
-    /// A configuration of a form that is measured by a later version.
-    NotYet,
 }
 
 /// What has a limit.

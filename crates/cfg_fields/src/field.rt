@@ -7,14 +7,10 @@ ghost use Rattle.pq_base.specs.Decimal.{decimal_of};
 ghost use Rattle.cfg_fields.specs.Fields.{Gives, text_field, number_field, position_field, decimal_text, decimal_field, lettered, channel_count, frequency_field, rate_field, samples_field};
 
 use crate::fault::{CfgFault, Quantity, Unsupported};
+use crate::limits::MOST_CHANNELS;
 use pq_base::{Scaled, Text, read_decimal, read_number};
+use pq_words::{LEAST_SAMPLES_IN_CYCLE, MOST_RATE, MOST_SAMPLES};
 use std::alloc::Global;
-
-const MOST_CHANNELS: u64 = 999;
-
-const MOST_SAMPLES: u64 = 50_000_000;
-
-const MOST_MICROHERTZ: u128 = 200_000_000_000;
 
 // A carriage return in a text.
 fn has_carriage_return(text: &[u8]) -> bool
@@ -32,7 +28,7 @@ pub fn is_word(text: &[u8], word: &[u8]) -> bool
 
 // A text of its own.
 fn copied(alloc: Global, text: &[u8]) -> Result<Text, CfgFault>
-    ensures { Gives (λ t. t) result (Ok text.now) }
+    ensures { Gives result (Ok text.now) }
 {
     Ok(Text::new(Vec::from_slice(alloc, text)?))
 }
@@ -44,7 +40,7 @@ fn copied(alloc: Global, text: &[u8]) -> Result<Text, CfgFault>
 /// [`CfgFault::Field`] where it holds a carriage return, [`CfgFault::OutOfMemory`].
 #[tactic(auto, unfolding(crate::specs::Fields::text_field))]
 pub fn text_field(alloc: Global, line: u32, field: u32, text: &[u8]) -> Result<Text, CfgFault>
-    ensures { Gives (λ t. t) result (text_field line field text.now) }
+    ensures { Gives result (text_field line field text.now) }
 {
     if has_carriage_return(text) {
         return Err(CfgFault::Field { line, field });
@@ -59,7 +55,7 @@ pub fn text_field(alloc: Global, line: u32, field: u32, text: &[u8]) -> Result<T
 /// [`CfgFault::Field`] where the text is no such number.
 #[tactic(auto, unfolding(crate::specs::Fields::number_field))]
 pub fn number_field(line: u32, field: u32, text: &[u8]) -> Result<u64, CfgFault>
-    ensures { Gives (λ n. n) result (number_field line field text.now) }
+    ensures { Gives result (number_field line field text.now) }
 {
     read_number(text).ok_or(CfgFault::Field { line, field })
 }
@@ -71,7 +67,7 @@ pub fn number_field(line: u32, field: u32, text: &[u8]) -> Result<u64, CfgFault>
 /// [`CfgFault::Field`] where the text is no number, or another one.
 #[tactic(auto, unfolding(crate::specs::Fields::position_field))]
 pub fn position_field(position: u32, line: u32, field: u32, text: &[u8]) -> Result<u64, CfgFault>
-    ensures { Gives (λ n. n) result (position_field position line field text.now) }
+    ensures { Gives result (position_field position line field text.now) }
 {
     let number = number_field(line, field, text)?;
     if number != u64::from(position) {
@@ -108,8 +104,8 @@ pub fn channel_count(
     text: &[u8],
 ) -> Result<u32, CfgFault>
     requires { capital < 128 }
-    ensures value { Gives (λ n. n) result (channel_count capital what line field text.now) }
-    ensures within { IfOk result (λ n. n ≤ 999) }
+    ensures value { Gives result (channel_count capital what line field text.now) }
+    ensures within { IfOk result (λ n. n ≤ MOST_CHANNELS) }
 {
     let count = lettered(capital, text).ok_or(CfgFault::Field { line, field })?;
     if count > MOST_CHANNELS {
@@ -121,7 +117,7 @@ pub fn channel_count(
 // A decimal.
 #[tactic(auto, unfolding(crate::specs::Fields::decimal_field))]
 fn decimal_field(line: u32, field: u32, text: &[u8]) -> Result<Scaled, CfgFault>
-    ensures { Gives (λ x. x) result (decimal_field line field text.now) }
+    ensures { Gives result (decimal_field line field text.now) }
 {
     read_decimal(text).ok_or(CfgFault::Field { line, field })
 }
@@ -133,7 +129,7 @@ fn decimal_field(line: u32, field: u32, text: &[u8]) -> Result<Scaled, CfgFault>
 /// [`CfgFault::Field`] where the text is no decimal, [`CfgFault::OutOfMemory`].
 #[tactic(auto, unfolding(crate::specs::Fields::decimal_text))]
 pub fn decimal_text(alloc: Global, line: u32, field: u32, text: &[u8]) -> Result<Text, CfgFault>
-    ensures { Gives (λ t. t) result (decimal_text line field text.now) }
+    ensures { Gives result (decimal_text line field text.now) }
 {
     let _value = decimal_field(line, field, text)?;
     copied(alloc, text)
@@ -147,7 +143,7 @@ pub fn decimal_text(alloc: Global, line: u32, field: u32, text: &[u8]) -> Result
 /// neither of them.
 #[tactic(auto, unfolding(crate::specs::Fields::frequency_field))]
 pub fn frequency_field(line: u32, field: u32, text: &[u8]) -> Result<u32, CfgFault>
-    ensures value { Gives (λ n. n) result (frequency_field line field text.now) }
+    ensures value { Gives result (frequency_field line field text.now) }
     ensures known { IfOk result (λ n. (n ≡ 50) ⊎ (n ≡ 60)) }
 {
     match decimal_field(line, field, text)?.round(6, 60_000_000) {
@@ -170,10 +166,10 @@ pub fn frequency_field(line: u32, field: u32, text: &[u8]) -> Result<u32, CfgFau
 #[tactic(auto, unfolding(crate::specs::Fields::rate_field))]
 pub fn rate_field(lf: u32, line: u32, field: u32, text: &[u8]) -> Result<u64, CfgFault>
     requires { lf ≤ 60 }
-    ensures { Gives (λ n. n) result (rate_field lf line field text.now) }
+    ensures { Gives result (rate_field lf line field text.now) }
 {
-    let least = 16_000_000 * i128::from(lf);
-    match decimal_field(line, field, text)?.round(6, MOST_MICROHERTZ) {
+    let least = i128::from(LEAST_SAMPLES_IN_CYCLE) * i128::from(lf) * 1_000_000;
+    match decimal_field(line, field, text)?.round(6, u128::from(MOST_RATE)) {
         Some(rate) if rate >= least => Ok(rate as u64),
         _ => Err(CfgFault::Limit {
             what: Quantity::Rate,
@@ -190,7 +186,7 @@ pub fn rate_field(lf: u32, line: u32, field: u32, text: &[u8]) -> Result<u64, Cf
 /// 50,000,000.
 #[tactic(auto, unfolding(crate::specs::Fields::samples_field))]
 pub fn samples_field(line: u32, field: u32, text: &[u8]) -> Result<u64, CfgFault>
-    ensures { Gives (λ n. n) result (samples_field line field text.now) }
+    ensures { Gives result (samples_field line field text.now) }
 {
     let samples = number_field(line, field, text)?;
     if samples > MOST_SAMPLES {

@@ -7,6 +7,7 @@ ghost use Rattle.cfg_fields.specs.Fields.{Gives, moment_fields, hexadecimal, lea
 use crate::fault::{CfgFault, Unsupported};
 use crate::field::is_word;
 use pq_time::{BadMoment, read_code, read_moment};
+use pq_words::MOST_NANOSECONDS;
 
 /// Reads a moment as written, in nanoseconds since 1970: the date is field 1, the time field 2.
 ///
@@ -14,8 +15,8 @@ use pq_time::{BadMoment, read_code, read_moment};
 ///
 /// [`CfgFault::Field`] with the first of the two that is no date, or no time.
 pub fn moment_fields(line: u32, date: &[u8], time: &[u8]) -> Result<i64, CfgFault>
-    ensures value { Gives (λ t. t) result (moment_fields line (written_moment date.now time.now)) }
-    ensures within { IfOk result (IsWithin (8 * 10 ^ 18)) }
+    ensures value { Gives result (moment_fields line (written_moment date.now time.now)) }
+    ensures within { IfOk result (IsWithin MOST_NANOSECONDS) }
 {
     match read_moment(date, time) {
         Ok(moment) => Ok(moment),
@@ -54,7 +55,7 @@ fn leap_digit(text: &[u8]) -> Option<u8>
 /// a leap second, by 1 or 2.
 #[tactic(auto, unfolding(crate::specs::Fields::leap_field))]
 pub fn leap_field(line: u32, field: u32, text: &[u8]) -> Result<u8, CfgFault>
-    ensures { Gives (λ n. n) result (leap_field line field text.now) }
+    ensures { Gives result (leap_field line field text.now) }
 {
     let leap = leap_digit(text).ok_or(CfgFault::Field { line, field })?;
     if leap != 0 && leap != 3 {

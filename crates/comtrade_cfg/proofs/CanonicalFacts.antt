@@ -53,7 +53,7 @@ last_stops : (xs : Text) → suffix_len is_blank xs < length xs →
 last_stops xs less =
     let inside : suffix_len is_blank xs < length (reverse xs) = omega (arith, length-reverse xs) in
     ap is_blank (sym (get_or-reverse xs (suffix_len is_blank xs) 0 less))
-        ∙ prefix_len_stops is_blank (reverse xs) 0 inside
+    ∙ prefix_len_stops is_blank (reverse xs) 0 inside
 
 pub trim_trimmed : (xs : Text) → IsTrim (trimmed xs)
 trim_trimmed xs =
@@ -64,19 +64,19 @@ trim_trimmed xs =
       front = λ some.
           let in_front : 0 < n = omega (arith, size, some) in
           let in_text : prefix_len is_blank xs < length xs =
-              omega (arith, in_front, length-drop (prefix_len is_blank xs) xs) in
+          omega (arith, in_front, length-drop (prefix_len is_blank xs) xs) in
           let at : prefix_len is_blank xs + 0 ≡ prefix_len is_blank xs = omega arith in
           ap is_blank (get_or-take n front 0 0 in_front ∙ get_or-drop (prefix_len is_blank xs) xs 0 0
-              ∙ ap (λ k. get_or xs k 0) at) ∙ prefix_len_stops is_blank xs 0 in_text;
+          ∙ ap (λ k. get_or xs k 0) at) ∙ prefix_len_stops is_blank xs 0 in_text;
       back = λ some.
           let in_front : 0 < n = omega (arith, size, some) in
           let less : suffix_len is_blank front < length front = omega (arith, in_front) in
           let at : length (take n front) - 1 ≡ length front - 1 - suffix_len is_blank front =
-              omega (arith, size) in
+          omega (arith, size) in
           let inside : length front - 1 - suffix_len is_blank front < n = omega (arith, in_front) in
           ap is_blank (ap (λ k. get_or (take n front) k 0) at
-              ∙ get_or-take n front (length front - 1 - suffix_len is_blank front) 0 inside)
-              ∙ last_stops front less;
+          ∙ get_or-take n front (length front - 1 - suffix_len is_blank front) 0 inside)
+          ∙ last_stops front less;
     }
 
 trimmed_free : (c : ℕ) (xs : Text) → IsFree c xs → IsFree c (trimmed xs)
@@ -87,9 +87,15 @@ trimmed_free c xs h =
 trimmed_fields : (parts : List Text) → AllByRecursion (IsFree 44) parts → AllByRecursion (IsFree 10) parts →
     AllByRecursion IsField (map trimmed parts)
 trimmed_fields [] p q = tt
-trimmed_fields (part ∷ parts) p q =
-    (record { comma = trimmed_free 44 part p.0; line_feed = trimmed_free 10 part q.0; trim =
-        trim_trimmed part }, trimmed_fields parts p.1 q.1)
+trimmed_fields (part ∷ parts) p q = (
+  record {
+    comma = trimmed_free 44 part p.0;
+    line_feed = trimmed_free 10 part q.0;
+    trim =
+        trim_trimmed part;
+  },
+  trimmed_fields parts p.1 q.1,
+)
 
 -- the fields of a line
 pub fields_are : (line : Text) → IsFree 10 line → AllByRecursion IsField (fields_of line)

@@ -20,12 +20,12 @@ regroup front x (Err e) = refl
 pub goes_on : {A : Type 0} (rule : ℕ → LineRule A) (front : List A) (count i : ℕ) (ahead after : Ahead)
     (x : A) (total : Reading (List A)) → i < count → on_line (rule (i + 1)) ahead ≡ Ok (x, after)
     → with_front front (channel_lines rule (i + 1) (count - i) ahead) ≡ total →
-        with_front (front ++ x ∷ []) (channel_lines rule (i + 1 + 1) (count - (i + 1)) after) ≡ total
+    with_front (front ++ x ∷ []) (channel_lines rule (i + 1 + 1) (count - (i + 1)) after) ≡ total
 unfolding channel_lines
 goes_on rule front count i ahead after x total lt h so_far =
     let k : count - i ≡ suc (count - (i + 1)) = omega arith in
     let one : with_front front (channel_lines rule (i + 1) (count - i) ahead)
-        ≡ with_front (front ++ x ∷ []) (channel_lines rule (i + 1 + 1) (count - (i + 1)) after) =
+    ≡ with_front (front ++ x ∷ []) (channel_lines rule (i + 1 + 1) (count - (i + 1)) after) =
     rw (k, h) (regroup front x (channel_lines rule (i + 1 + 1) (count - (i + 1)) after)) in
     sym one ∙ so_far
 
@@ -33,7 +33,7 @@ goes_on rule front count i ahead after x total lt h so_far =
 pub ends : {A : Type 0} (rule : ℕ → LineRule A) (front : List A) (count i : ℕ) (ahead : Ahead) (e : CfgFault)
     (total : Reading (List A)) → i < count → (e ≡ fault.OutOfMemory) ⊎ (on_line (rule (i + 1)) ahead ≡ Err e)
     → with_front front (channel_lines rule (i + 1) (count - i) ahead) ≡ total →
-        (e ≡ fault.OutOfMemory) ⊎ (total ≡ Err e)
+    (e ≡ fault.OutOfMemory) ⊎ (total ≡ Err e)
 unfolding channel_lines
 ends rule front count i ahead e total lt (inl memory) so_far = inl memory
 ends rule front count i ahead e total lt (inr h) so_far =
@@ -49,5 +49,5 @@ unfolding channel_lines
 is_done {A} rule front count i ahead total le so_far =
     let k : count - i ≡ 0 = omega arith in
     let one : with_front front (channel_lines rule (i + 1) (count - i) ahead) ≡ Ok (front, ahead) =
-        rw k (ap (λ (xs : List A). Ok (xs, ahead)) (append-nil front)) in
+    rw k (ap (λ (xs : List A). Ok (xs, ahead)) (append-nil front)) in
     sym so_far ∙ one

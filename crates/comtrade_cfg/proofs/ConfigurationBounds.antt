@@ -11,17 +11,18 @@ use Rattle.pq_words.specs.Magnitude.{IsWithin}
 use Rattle.pq_words.proofs.ReadingLemmas.{some_ok}
 use Rattle.pq_time.specs.declared.bad_moment.BadMoment.TheVariants as bad
 use Rattle.pq_time.specs.declared.bad_moment.BadMoment.{BadMoment}
-use Rattle.pq_time.specs.Written.{CivilDate, TimeOfDay, is_civil_date, date_of, time_of, code_of}
+use Rattle.pq_time.specs.Written.{CivilDate, TimeOfDay, is_civil_date, date_of, clock_time_of as time_of, code_of}
 use Rattle.pq_time.specs.Moment.{day_number, nanoseconds_in_day, moment_at, moment_read, written_moment, utc_of}
 use Rattle.pq_time.proofs.DayLemmas.{written_day}
-use Rattle.comtrade_cfg.specs.declared.head.ChannelCounts.{ChannelCounts}
-use Rattle.comtrade_cfg.specs.declared.sampling.Sampling.{Sampling}
+use Rattle.comtrade_cfg.specs.declared.head_lines.ChannelCounts.{ChannelCounts}
+use Rattle.comtrade_cfg.specs.declared.sampling_lines.Sampling.{Sampling}
 use Rattle.comtrade_cfg.specs.declared.cfg.Zone.{Zone}
 use Rattle.cfg_fields.specs.declared.fault.CfgFault.TheVariants as fault
 use Rattle.cfg_fields.specs.declared.fault.Quantity.TheVariants as quantity
 use Rattle.comtrade_cfg.specs.Configuration.{Configuration}
 use Rattle.cfg_fields.specs.Fields.{Ahead, LineRule, ahead_of, on_line, channel_count, position_field, rate_field, samples_field, moment_fields, fields_of, local_code_of, leap_field, field_or_fault, hexadecimal}
 use Rattle.comtrade_cfg.specs.CfgText.{configuration_of, configuration_ahead, channel_lines, counts_line, frequency_line, sampling_line, stamp_line, zone_lines, time_code_line, time_quality_line, analogue_line, status_line, offset_of, IsConfiguration}
+use Rattle.comtrade_cfg.specs.Bounds.{ConfigurationsAreBounded, IsBounded}
 use Rattle.comtrade_cfg.proofs.LinesRead.{LinesRead, lines_read}
 use Rattle.cfg_fields.proofs.ReadingLaws.{line_read, from_bind, same_ok}
 use Rattle.cfg_fields.proofs.GrammarFields.{count_found, frequency_found, rate_found, samples_found}
@@ -36,12 +37,13 @@ counts_small line (a ∷ []) n e = absurd cc
 counts_small line (a ∷ b ∷ []) n e = absurd cc
 counts_small line (total ∷ analogue ∷ status ∷ []) n e =
     from_bind (channel_count 65 quantity.Analogue line 2 analogue) _ n e
-        (λ a a_is e. from_bind (channel_count 68 quantity.Status line 3 status) _ n e (λ d d_is e.
+    (λ a a_is e. from_bind (channel_count 68 quantity.Status line 3 status) _ n e (λ d d_is e.
     from_bind (position_field (a + d) line 1 total) _ n e (λ t t_is e.
     let same_a : a ≡ n.analogue = ap (λ (n : ChannelCounts). n.analogue) (same_ok e) in
-    let same_d : d ≡ n.status = ap (λ (n : ChannelCounts). n.status) (same_ok e) in
-    (omega (arith, same_a, (count_found 65 quantity.Analogue line 2 analogue a a_is).1),
-        omega (arith, same_d, (count_found 68 quantity.Status line 3 status d d_is).1)))))
+    let same_d : d ≡ n.status = ap (λ (n : ChannelCounts). n.status) (same_ok e) in (
+      omega (arith, same_a, (count_found 65 quantity.Analogue line 2 analogue a a_is).1),
+      omega (arith, same_d, (count_found 68 quantity.Status line 3 status d d_is).1),
+    ))))
 counts_small line (a ∷ b ∷ c ∷ d ∷ more) n e = absurd cc
 
 -- as many lines as were asked for
@@ -52,7 +54,7 @@ channels_read {A} rule position zero start y e = let same : [] ≡ y.0 =
     ap (λ (z : List A × Ahead). z.0) (same_ok e) in ap length (sym same)
 channels_read {A} rule position (suc n) start y e =
     from_bind (on_line (rule position) start) _ y e (λ first first_is e. from_bind
-        (channel_lines rule (position + 1) n first.1) _ y e (λ others others_is e.
+    (channel_lines rule (position + 1) n first.1) _ y e (λ others others_is e.
     let same : first.0 ∷ others.0 ≡ y.0 = ap (λ (z : List A × Ahead). z.0) (same_ok e) in
     ap length (sym same) ∙ ap suc (channels_read rule (position + 1) n first.1 others others_is)))
 
@@ -68,7 +70,7 @@ rate_read : (lf line field : ℕ) (text : Text) (n : ℕ) → rate_field lf line
     (16 * lf * 10 ^ 6 ≤ n) × (n ≤ 200_000_000_000)
 rate_read lf line field text n e =
     let p = and_parts (nat_le (16 * lf * 10 ^ 6) n) (nat_le n 200000000000)
-        (rate_found lf line field text n e).1 in
+    (rate_found lf line field text n e).1 in
     (leb-true (16 * lf * 10 ^ 6) n p.0, leb-true n 200000000000 p.1)
 
 sampling_read : (lf line : ℕ) (fields : List Text) (s : Sampling) → sampling_line lf line fields ≡ Ok s →
@@ -77,12 +79,14 @@ sampling_read lf line [] s e = absurd cc
 sampling_read lf line (a ∷ []) s e = absurd cc
 sampling_read lf line (samp ∷ endsamp ∷ []) s e =
     from_bind (rate_field lf line 1 samp) _ s e (λ rate rate_is e. from_bind (samples_field line 2 endsamp) _
-        s e (λ n n_is e.
+    s e (λ n n_is e.
     let same_rate : rate ≡ s.rate = ap (λ (s : Sampling). s.rate) (same_ok e) in
     let same_n : n ≡ s.endsamp = ap (λ (s : Sampling). s.endsamp) (same_ok e) in
-    let r = rate_read lf line 1 samp rate rate_is in
-    (omega (arith, same_rate, r.0), omega (arith, same_rate, r.1),
-        omega (arith, same_n, (samples_found line 2 endsamp n n_is).1))))
+    let r = rate_read lf line 1 samp rate rate_is in (
+      omega (arith, same_rate, r.0),
+      omega (arith, same_rate, r.1),
+      omega (arith, same_n, (samples_found line 2 endsamp n n_is).1),
+    )))
 sampling_read lf line (a ∷ b ∷ c ∷ more) s e = absurd cc
 
 -- ---- moments
@@ -114,9 +118,12 @@ pub stamp_read : (line : ℕ) (fields : List Text) (written : ℤ) → stamp_lin
 unfolding written_moment
 stamp_read line [] written e = absurd cc
 stamp_read line (a ∷ []) written e = absurd cc
-stamp_read line (date ∷ time ∷ []) written e =
-    (date, time, moment_of date time (date_of date) (time_of time) written refl refl
-        (moment_fields_read line (written_moment date time) written e))
+stamp_read line (date ∷ time ∷ []) written e = (
+  date,
+  time,
+  moment_of date time (date_of date) (time_of time) written refl refl
+      (moment_fields_read line (written_moment date time) written e),
+)
 stamp_read line (a ∷ b ∷ c ∷ more) written e = absurd cc
 
 -- ---- the day of a date
@@ -131,11 +138,11 @@ pub record IsCivil (d : CivilDate) : Type 0 where
 pub civil : (d : CivilDate) → is_civil_date d ≡ true → IsCivil d
 civil d is =
     let p = and_parts (nat_le 1900 d.year && nat_le d.year 2199)
-        ((nat_le 1 d.month && nat_le d.month 12) && (nat_le 1 d.day && nat_le d.day
-        (days_in_month (pos d.year) d.month))) is in
+    ((nat_le 1 d.month && nat_le d.month 12) && (nat_le 1 d.day && nat_le d.day
+    (days_in_month (pos d.year) d.month))) is in
     let y = and_parts (nat_le 1900 d.year) (nat_le d.year 2199) p.0 in
     let q = and_parts (nat_le 1 d.month && nat_le d.month 12)
-        (nat_le 1 d.day && nat_le d.day (days_in_month (pos d.year) d.month)) p.1 in
+    (nat_le 1 d.day && nat_le d.day (days_in_month (pos d.year) d.month)) p.1 in
     let m = and_parts (nat_le 1 d.month) (nat_le d.month 12) q.0 in
     let k = and_parts (nat_le 1 d.day) (nat_le d.day (days_in_month (pos d.year) d.month)) q.1 in
     record {
@@ -181,7 +188,7 @@ codes_small line [] x e = absurd cc
 codes_small line (a ∷ []) x e = absurd cc
 codes_small line (time_code ∷ local_code ∷ []) x e =
     from_bind (field_or_fault line 1 (code_of time_code)) _ x e
-        (λ t t_is e. from_bind (field_or_fault line 2 (local_code_of local_code)) _ x e (λ l l_is e.
+    (λ t t_is e. from_bind (field_or_fault line 2 (local_code_of local_code)) _ x e (λ l l_is e.
     let same : t ≡ x.0 = ap (λ (x : ℤ × Option ℤ). x.0) (same_ok e) in
     subst (IsWithin 899) same (code_small time_code t (some_ok (code_of time_code) _ t t_is))))
 codes_small line (a ∷ b ∷ c ∷ more) x e = absurd cc
@@ -191,7 +198,7 @@ pub offset_small : (is_2013 : Bool) (start : Ahead) (y : Option Zone × Ahead) �
     ≡ Ok y → IsWithin 899 (offset_of y.0)
 offset_small true start y e =
     from_bind (on_line time_code_line start) _ y e (λ codes codes_is e. from_bind
-        (on_line time_quality_line codes.1) _ y e (λ quality quality_is e.
+    (on_line time_quality_line codes.1) _ y e (λ quality quality_is e.
     let r = line_read time_code_line start codes codes_is in
     let same : codes.0.0 ≡ offset_of y.0 = ap (λ (y : Option Zone × Ahead). offset_of y.0) (same_ok e) in
     subst (IsWithin 899) same (codes_small start.number (fields_of r.line) codes.0 r.value)))
@@ -215,7 +222,7 @@ quality_small line [] x e = absurd cc
 quality_small line (a ∷ []) x e = absurd cc
 quality_small line (tmq_code ∷ leapsec ∷ []) x e =
     from_bind (field_or_fault line 1 (hexadecimal tmq_code)) _ x e
-        (λ q q_is e. from_bind (leap_field line 2 leapsec) _ x e (λ l l_is e.
+    (λ q q_is e. from_bind (leap_field line 2 leapsec) _ x e (λ l l_is e.
     let same : q ≡ x.0 = ap (λ (x : ℕ × ℕ). x.0) (same_ok e) in
     omega (arith, same, hexadecimal_small tmq_code q (some_ok (hexadecimal tmq_code) _ q q_is))))
 quality_small line (a ∷ b ∷ c ∷ more) x e = absurd cc
@@ -225,31 +232,23 @@ pub zone_quality : (is_2013 : Bool) (start : Ahead) (y : Option Zone × Ahead) �
     ≡ Ok y → ForSome y.0 (λ z. z.quality < 16)
 zone_quality true start y e z there =
     from_bind (on_line time_code_line start) _ y e (λ codes codes_is e. from_bind
-        (on_line time_quality_line codes.1) _ y e (λ quality quality_is e.
+    (on_line time_quality_line codes.1) _ y e (λ quality quality_is e.
     let r = line_read time_quality_line codes.1 quality quality_is in
-    let zone : Zone = record { time_code = codes.0.0; local_code = codes.0.1; quality = quality.0.0; leap =
-        quality.0.1 } in
+    let zone : Zone = record {
+      time_code = codes.0.0;
+      local_code = codes.0.1;
+      quality = quality.0.0;
+      leap =
+          quality.0.1;
+    } in
     let same : Some zone ≡ Some z = ap (λ (y : Option Zone × Ahead). y.0) (same_ok e) ∙ there in
     let is : zone ≡ z = cc in
     subst (λ (z : Zone). z.quality < 16) is (quality_small codes.1.number (fields_of r.line) quality.0
-        r.value)))
+    r.value)))
 zone_quality false start y e z there = absurd (let same : None ≡ Some z =
     ap (λ (y : Option Zone × Ahead). y.0) (same_ok e) ∙ there in cc)
 
 -- ---- the whole
-
--- the bounds of a configuration that some text says
-pub record IsBounded (c : Configuration) : Type 0 where
-  pub lf : (c.lf ≡ 50) ⊎ (c.lf ≡ 60)
-  pub slowest : 16 * c.lf * 10 ^ 6 ≤ c.rate
-  pub fastest : c.rate ≤ 200_000_000_000
-  pub endsamp : c.endsamp ≤ 50_000_000
-  pub analogue : length c.analogue ≤ 999
-  pub status : length c.status ≤ 999
-  pub first : IsWithin (8 * 10 ^ 18) c.first
-  pub trigger : IsWithin (8 * 10 ^ 18) c.trigger
-  pub offset : IsWithin 899 (offset_of c.zone)
-  pub quality : ForSome c.zone (λ z. z.quality < 16)
 
 utc_within : (written minutes : ℤ) → IsWithin (7_300 * 10 ^ 15) written → IsWithin 899 minutes →
     IsWithin (8 * 10 ^ 18) (utc_of written minutes)
@@ -263,7 +262,7 @@ stamp_within start y e =
     let s = stamp_read start.number (fields_of r.line) y.0 r.value in
     let m = s.2 in
     subst (IsWithin (7_300 * 10 ^ 15)) m.is (moment_within m.day m.clock
-        (civil m.day (date_civil s.0 m.day m.day_is)) (time_clock s.1 m.clock m.clock_is))
+    (civil m.day (date_civil s.0 m.day m.day_is)) (time_clock s.1 m.clock m.clock_is))
 
 -- what was read from lines is bounded
 pub bounded : (start : Ahead) (c : Configuration) → LinesRead start c → IsBounded c
@@ -306,7 +305,8 @@ from_text text c e = at (nat_le (length text) 1048576) refl e
 pub text_bounded : (text : Text) (c : Configuration) → configuration_of text ≡ Ok c → IsBounded c
 text_bounded text c e = bounded (ahead_of text) c (from_text text c e).1
 
-pub configuration_bounded : (c : Configuration) → IsConfiguration c → IsBounded c
+-- the law of bounds
+pub configuration_bounded : ConfigurationsAreBounded
 configuration_bounded c says = text_bounded says.0 c says.1
 
 -- it has at most 999 channels of each kind

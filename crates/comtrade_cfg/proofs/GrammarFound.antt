@@ -42,33 +42,33 @@ lines_found : (text : List Text) (a : Ahead) (c : Configuration) → a ≡ place
 lines_found text a c s r =
     let d : Configuration = said a c r in
     let na : length r.analogue.0 ≡ r.counts.0.analogue =
-        channels_read analogue_line 1 r.counts.0.analogue r.counts.1 r.analogue r.analogue_is in
+    channels_read analogue_line 1 r.counts.0.analogue r.counts.1 r.analogue r.analogue_is in
     let nd : length r.status.0 ≡ r.counts.0.status =
-        channels_read status_line 1 r.counts.0.status r.analogue.1 r.status r.status_is in
+    channels_read status_line 1 r.counts.0.status r.analogue.1 r.status r.status_is in
     let i : ℕ = 2 + length r.analogue.0 in
     let j : ℕ = 2 + length r.analogue.0 + length r.status.0 in
     let k : ℕ = after_channels d in
     let station = line_found station_line text 0 1 a r.station refl s r.station_is in
     let counts = line_found counts_line text 1 2 r.station.1 r.counts refl station.1 r.counts_is in
     let analogue = channels_found analogue_line text 1 r.counts.0.analogue 2 i r.counts.1 r.analogue
-        (omega (arith, na)) counts.1 r.analogue_is in
+    (omega (arith, na)) counts.1 r.analogue_is in
     let status = channels_found status_line text 1 r.counts.0.status i j r.analogue.1 r.status
-        (omega (arith, nd)) analogue.1 r.status_is in
+    (omega (arith, nd)) analogue.1 r.status_is in
     let lf = line_found frequency_line text j k r.status.1 r.lf (omega arith) status.1 r.lf_is in
     let rates = line_found rates_line text k (k + 1) r.lf.1 r.rates refl lf.1 r.rates_is in
     let sampling = line_found (sampling_line d.lf) text (k + 1) (k + 2) r.rates.1 r.sampling (omega arith)
-        rates.1 r.sampling_is in
+    rates.1 r.sampling_is in
     let first = line_found stamp_line text (k + 2) (k + 3) r.sampling.1 r.first (omega arith) sampling.1
-        r.first_is in
+    r.first_is in
     let trigger = line_found stamp_line text (k + 3) (k + 4) r.first.1 r.trigger (omega arith) first.1
-        r.trigger_is in
+    r.trigger_is in
     let file_type = line_found file_type_line text (k + 4) (k + 5) r.trigger.1 r.file_type (omega arith)
-        trigger.1 r.file_type_is in
+    trigger.1 r.file_type_is in
     let timemult = line_found timemult_line text (k + 5) (k + 6) r.file_type.1 r.timemult (omega arith)
-        file_type.1 r.timemult_is in
+    file_type.1 r.timemult_is in
     let head = station_found d 1 (fields_at text 1) station.0 in
     let zone = zone_found text d.revision (k + 6) (k + 7) r.timemult.1 r.zone (omega arith) head.known
-        timemult.1 r.zone_is in
+    timemult.1 r.zone_is in
     let eight : k + 7 + 1 ≡ k + 8 = omega arith in
     let offset : ℤ = offset_of r.zone.0 in
     subst (LinesSay text) r.is (record {

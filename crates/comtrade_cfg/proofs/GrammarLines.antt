@@ -7,15 +7,15 @@ use Rattle.pq_words.specs.Text.{Text}
 use Rattle.pq_words.specs.FirstFault.{provided}
 use Rattle.pq_words.proofs.ReadingLemmas.{provided_ok}
 use Rattle.pq_base.specs.Decimal.{decimal_of}
-use Rattle.pq_time.specs.Written.{CivilDate, TimeOfDay, date_of, time_of}
+use Rattle.pq_time.specs.Written.{CivilDate, TimeOfDay, date_of, clock_time_of as time_of}
 use Rattle.pq_time.specs.Moment.{moment_read, written_moment}
 use Rattle.comtrade_cfg.specs.declared.cfg.Analogue.{Analogue}
 use Rattle.comtrade_cfg.specs.declared.cfg.StatusLine.{StatusLine}
 use Rattle.comtrade_cfg.specs.declared.cfg.FileType.{FileType}
 use Rattle.comtrade_cfg.specs.declared.cfg.FileType.TheVariants.{Binary}
-use Rattle.comtrade_cfg.specs.declared.head.Station.{Station}
-use Rattle.comtrade_cfg.specs.declared.head.ChannelCounts.{ChannelCounts}
-use Rattle.comtrade_cfg.specs.declared.sampling.Sampling.{Sampling}
+use Rattle.comtrade_cfg.specs.declared.head_lines.Station.{Station}
+use Rattle.comtrade_cfg.specs.declared.head_lines.ChannelCounts.{ChannelCounts}
+use Rattle.comtrade_cfg.specs.declared.sampling_lines.Sampling.{Sampling}
 use Rattle.cfg_fields.specs.declared.fault.CfgFault.TheVariants as fault
 use Rattle.cfg_fields.specs.declared.fault.Quantity.TheVariants as quantity
 use Rattle.cfg_fields.specs.declared.fault.Unsupported.TheVariants as unsupported
@@ -40,9 +40,9 @@ station_fields_found : (c : Configuration) (line : ℕ) (station device revision
 unfolding station_fields
 station_fields_found c line station device revision e =
     text_step line 1 station _ (station_of c) e (λ s_text e. text_step line 2 device _ (station_of c) e
-        (λ d_text e. from_bind (number_field line 3 revision) _ (station_of c) e (λ n n_is e.
+    (λ d_text e. from_bind (number_field line 3 revision) _ (station_of c) e (λ n n_is e.
     let p = provided_ok ((n == 1999) || (n == 2013)) (fault.Unsupported unsupported.Revision line)
-        (record { station = station; device = device; revision = n }) (station_of c) e in
+    (record { station = station; device = device; revision = n }) (station_of c) e in
     let same_s : station ≡ c.station = ap (λ (s : Station). s.station) p.1 in
     let same_d : device ≡ c.device = ap (λ (s : Station). s.device) p.1 in
     let same_n : n ≡ c.revision = ap (λ (s : Station). s.revision) p.1 in
@@ -74,9 +74,9 @@ station_again c line fields h =
     ∙ goes (text_field line 1 c.station) _ c.station (text_again line 1 c.station h.texts.0)
     ∙ goes (text_field line 2 c.device) _ c.device (text_again line 2 c.device h.texts.1.0)
     ∙ goes (number_field line 3 h.revision) _ c.revision
-        (number_again line 3 h.revision c.revision h.revision_is)
+    (number_again line 3 h.revision c.revision h.revision_is)
     ∙ ap (λ b. provided b (fault.Unsupported unsupported.Revision line) (station_of c))
-        (among c.revision 1999 2013 h.known)
+    (among c.revision 1999 2013 h.known)
 
 -- the numbers of channels that were read
 pub counts_found : (line : ℕ) (fields : List Text) (analogue status : ℕ) → counts_line line fields
@@ -87,7 +87,7 @@ counts_found line (x ∷ y ∷ []) analogue status e = absurd cc
 counts_found line (total ∷ na ∷ nd ∷ []) analogue status e =
     let n : ChannelCounts = record { analogue = analogue; status = status } in
     from_bind (channel_count 65 quantity.Analogue line 2 na) _ n e
-        (λ a a_is e. from_bind (channel_count 68 quantity.Status line 3 nd) _ n e (λ d d_is e.
+    (λ a a_is e. from_bind (channel_count 68 quantity.Status line 3 nd) _ n e (λ d d_is e.
     from_bind (position_field (a + d) line 1 total) _ n e (λ t t_is e.
     let same_a : a ≡ analogue = ap (λ (n : ChannelCounts). n.analogue) (same_ok e) in
     let same_d : d ≡ status = ap (λ (n : ChannelCounts). n.status) (same_ok e) in
@@ -112,11 +112,11 @@ pub counts_again : (line : ℕ) (fields : List Text) (analogue status : ℕ) →
 counts_again line fields analogue status h =
     ap (counts_line line) h.fields_are
     ∙ goes (channel_count 65 quantity.Analogue line 2 h.na) _ analogue
-        (count_again 65 quantity.Analogue line 2 h.na analogue h.na_is h.few.0)
+    (count_again 65 quantity.Analogue line 2 h.na analogue h.na_is h.few.0)
     ∙ goes (channel_count 68 quantity.Status line 3 h.nd) _ status
-        (count_again 68 quantity.Status line 3 h.nd status h.nd_is h.few.1)
+    (count_again 68 quantity.Status line 3 h.nd status h.nd_is h.few.1)
     ∙ goes (position_field (analogue + status) line 1 h.total) _ (analogue + status)
-        (position_again (analogue + status) line 1 h.total h.total_is)
+    (position_again (analogue + status) line 1 h.total h.total_is)
 
 -- ---- channels
 
@@ -125,7 +125,7 @@ analogue_fields_found : (position line : ℕ) (an id phase component unit a b sk
     : Text) (ch : Analogue)
     → analogue_fields position line an id phase component unit a b skew min max primary secondary ps ≡ Ok ch
     → IsAnalogueLine position (an ∷ id ∷ phase ∷ component ∷ unit ∷ a ∷ b ∷ skew ∷ min ∷ max ∷ primary ∷
-        secondary ∷ ps ∷ []) ch
+    secondary ∷ ps ∷ []) ch
 unfolding analogue_fields
 analogue_fields_found position line an id phase component unit a b skew min max primary secondary ps ch e =
     from_bind (position_field position line 1 an) _ ch e (λ n n_is e.
@@ -142,7 +142,7 @@ analogue_fields_found position line an id phase component unit a b skew min max 
     text_step line 12 secondary _ ch e (λ h12 e.
     text_step line 13 ps _ ch e (λ h13 e.
     subst (IsAnalogueLine position (an ∷ id ∷ phase ∷ component ∷ unit ∷ a ∷ b ∷ skew ∷ min ∷ max ∷ primary ∷
-        secondary ∷ ps ∷ [])) (same_ok e) (record {
+    secondary ∷ ps ∷ [])) (same_ok e) (record {
       an = an;
       fields_are = refl;
       an_is = position_found position line 1 an n n_is;
@@ -175,11 +175,11 @@ analogue_again position line fields ch h =
     ∙ goes (text_field line 8 ch.skew) _ ch.skew (text_again line 8 ch.skew h.texts.1.1.1.1.0)
     ∙ goes (text_field line 9 ch.least) _ ch.least (text_again line 9 ch.least h.texts.1.1.1.1.1.0)
     ∙ goes (text_field line 10 ch.greatest) _ ch.greatest
-        (text_again line 10 ch.greatest h.texts.1.1.1.1.1.1.0)
+    (text_again line 10 ch.greatest h.texts.1.1.1.1.1.1.0)
     ∙ goes (text_field line 11 ch.primary) _ ch.primary
-        (text_again line 11 ch.primary h.texts.1.1.1.1.1.1.1.0)
+    (text_again line 11 ch.primary h.texts.1.1.1.1.1.1.1.0)
     ∙ goes (text_field line 12 ch.secondary) _ ch.secondary
-        (text_again line 12 ch.secondary h.texts.1.1.1.1.1.1.1.1.0)
+    (text_again line 12 ch.secondary h.texts.1.1.1.1.1.1.1.1.0)
     ∙ goes (text_field line 13 ch.side) _ ch.side (text_again line 13 ch.side h.texts.1.1.1.1.1.1.1.1.1.0)
 
 -- the fields of a status channel line that were read
@@ -194,8 +194,13 @@ status_fields_found position line dn id phase component normal ch e =
     text_step line 4 component _ ch e (λ h4 e.
     text_step line 5 normal _ ch e (λ h5 e.
     subst (IsStatusLine position (dn ∷ id ∷ phase ∷ component ∷ normal ∷ [])) (same_ok e)
-    (record { dn = dn; fields_are = refl; dn_is = position_found position line 1 dn n n_is; texts =
-        (h2, (h3, (h4, (h5, tt)))) }))))))
+    (record {
+      dn = dn;
+      fields_are = refl;
+      dn_is = position_found position line 1 dn n n_is;
+      texts =
+          (h2, (h3, (h4, (h5, tt))));
+    }))))))
 
 -- a status channel line that was read
 pub status_found : (position line : ℕ) (fields : List Text) (ch : StatusLine) →
@@ -238,8 +243,12 @@ rates_found line [] n e = absurd cc
 rates_found line (text ∷ []) n e =
     from_bind (number_field line 1 text) _ n e (λ k k_is e.
     let p = provided_ok (k == 1) (fault.Unsupported unsupported.Rates line) k n e in
-    record { text = text; fields_are = refl; is = number_found line 1 text k k_is
-        ∙ ap Some (eqb-true k 1 p.0) })
+    record {
+      text = text;
+      fields_are = refl;
+      is = number_found line 1 text k k_is
+          ∙ ap Some (eqb-true k 1 p.0);
+    })
 rates_found line (x ∷ y ∷ more) n e = absurd cc
 
 -- a number of sampling rates line is read
@@ -258,13 +267,20 @@ sampling_found c line [] e = absurd cc
 sampling_found c line (x ∷ []) e = absurd cc
 sampling_found c line (samp ∷ endsamp ∷ []) e =
     from_bind (rate_field c.lf line 1 samp) _ (sampling_of c) e
-        (λ rate rate_is e. from_bind (samples_field line 2 endsamp) _ (sampling_of c) e (λ n n_is e.
+    (λ rate rate_is e. from_bind (samples_field line 2 endsamp) _ (sampling_of c) e (λ n n_is e.
     let same_rate : rate ≡ c.rate = ap (λ (s : Sampling). s.rate) (same_ok e) in
     let same_n : n ≡ c.endsamp = ap (λ (s : Sampling). s.endsamp) (same_ok e) in
     let r = rate_found c.lf line 1 samp c.rate (rate_is ∙ ap Ok same_rate) in
     let s = samples_found line 2 endsamp c.endsamp (n_is ∙ ap Ok same_n) in
-    record { samp = samp; endsamp = endsamp; fields_are = refl; samp_is = r.0; within = r.1; endsamp_is = s.0;
-        few = s.1 }))
+    record {
+      samp = samp;
+      endsamp = endsamp;
+      fields_are = refl;
+      samp_is = r.0;
+      within = r.1;
+      endsamp_is = s.0;
+      few = s.1;
+    }))
 sampling_found c line (x ∷ y ∷ z ∷ more) e = absurd cc
 
 -- a sampling rate line is read
@@ -274,7 +290,7 @@ sampling_again c line fields h =
     ap (sampling_line c.lf line) h.fields_are
     ∙ goes (rate_field c.lf line 1 h.samp) _ c.rate (rate_again c.lf line 1 h.samp c.rate h.samp_is h.within)
     ∙ goes (samples_field line 2 h.endsamp) _ c.endsamp
-        (samples_again line 2 h.endsamp c.endsamp h.endsamp_is h.few)
+    (samples_again line 2 h.endsamp c.endsamp h.endsamp_is h.few)
 
 -- ---- moments, file type and factor
 
@@ -285,8 +301,16 @@ stamp_fields_found : (line : ℕ) (date time : Text) (written : ℤ) (d : Option
 stamp_fields_found line date time written None t d_is t_is e = absurd cc
 stamp_fields_found line date time written (Some d) None d_is t_is e = absurd cc
 stamp_fields_found line date time written (Some d) (Some t) d_is t_is e =
-    record { date = date; time = time; fields_are = refl; day = d; clock = t; date_is = d_is; time_is = t_is;
-        moment_is = sym (same_ok e) }
+    record {
+      date = date;
+      time = time;
+      fields_are = refl;
+      day = d;
+      clock = t;
+      date_is = d_is;
+      time_is = t_is;
+      moment_is = sym (same_ok e);
+    }
 
 -- the moment that was read
 pub stamp_found : (line : ℕ) (fields : List Text) (written : ℤ) → stamp_line line fields ≡ Ok written →
@@ -330,7 +354,7 @@ pub file_type_again : (line : ℕ) (fields : List Text) (ft : FileType) → IsFi
 file_type_again line fields Binary h =
     ap (file_type_line line) h.fields_are
     ∙ ap (λ b. cond b (Ok Binary) (cond (is_other_file_type h.text)
-        (Err (fault.Unsupported unsupported.FileType line)) (Err (fault.Field line 1)))) h.is
+    (Err (fault.Unsupported unsupported.FileType line)) (Err (fault.Field line 1)))) h.is
 
 -- the factor that was read
 pub timemult_found : (line : ℕ) (fields : List Text) (timemult : Text) → timemult_line line fields

@@ -5,7 +5,7 @@ use Rattle.std.specs.Option.{option_map_or}
 use Rattle.pq_words.specs.Text.{Text, is_all_blank}
 use Rattle.cfg_fields.specs.declared.fault.CfgFault.{CfgFault}
 use Rattle.cfg_fields.specs.declared.fault.CfgFault.TheVariants as fault
-use Rattle.cfg_fields.specs.Fields.{Ahead, LineRule, line_of, next_line, on_line, fields_of, only_blank_lines}
+use Rattle.cfg_fields.specs.Fields.{Ahead, LineRule, line_of, next_line, on_line, fields_line, fields_of, only_blank_lines}
 use Rattle.comtrade_cfg.specs.CfgText.{channel_lines}
 use Rattle.comtrade_cfg.specs.Grammar.{fields_at}
 use Rattle.cfg_fields.proofs.ReadingLaws.{line_read, from_bind, same_ok, goes}
@@ -71,9 +71,9 @@ line_found {A} rule text i k start y n s e =
         let of_line : l ≡ line = ap (λ (p : Text × Ahead). p.0) same in
         let after : with_lines (i + 1 + 1) ls ≡ y.1 = ap (λ (p : Text × Ahead). p.1) same in
         let fields : fields_at text k ≡ fields_of line = fields_from text i k (Some l) n here.0
-            ∙ ap fields_of of_line in
+        ∙ ap fields_of of_line in
         let next : numbered text (i + 1 + 1) (suc i) ≡ y.1 =
-            ap (λ (ls : List Text). with_lines (i + 1 + 1) ls) (sym here.1) ∙ after in
+        ap (λ (ls : List Text). with_lines (i + 1 + 1) ls) (sym here.1) ∙ after in
         (ap (rule k) fields ∙ ap (λ m. rule m (fields_of line)) n ∙ value, sym next ∙ behind text i k n)
 
 -- what a rule gives for line k is what the reading gives there
@@ -87,12 +87,14 @@ line_again {A} rule text i k x n none e = at (slice_get text i) refl
         ∙ ap (rule k) (sym (fields_from text i k None n is)) ∙ e in cc)
     at (Some line) is =
         let ahead : next_line (place text i) ≡ Ok (line, place text k) =
-            ap (line_of (i + 1)) (line_ahead text i line is)
-            ∙ ap (λ (a : Ahead). Ok (line, a)) (behind text i k n) in
+        ap (line_of (i + 1)) (line_ahead text i line is)
+        ∙ ap (λ (a : Ahead). Ok (line, a)) (behind text i k n) in
         let value : rule (i + 1) (fields_of line) ≡ Ok x = ap (λ m. rule m (fields_of line)) (sym n)
-            ∙ ap (rule k) (sym (fields_from text i k (Some line) n is)) ∙ e in
-        goes (next_line (place text i)) _ (line, place text k) ahead
-            ∙ goes (rule (i + 1) (fields_of line)) _ x value
+        ∙ ap (rule k) (sym (fields_from text i k (Some line) n is)) ∙ e in
+        goes (fields_line (place text i)) _
+        (record { number = i + 1; fields = fields_of line }, place text k)
+        (goes (next_line (place text i)) _ (line, place text k) ahead)
+        ∙ goes (rule (i + 1) (fields_of line)) _ x value
 
 -- ---- the lines of channels
 
@@ -116,12 +118,12 @@ channels_found {A} rule text position zero i j start y m s e =
     )
 channels_found {A} rule text position (suc n) i j start y m s e =
     from_bind (on_line (rule position) start) _ y e (λ first first_is e. from_bind
-        (channel_lines rule (position + 1) n first.1) _ y e (λ others others_is e.
+    (channel_lines rule (position + 1) n first.1) _ y e (λ others others_is e.
     let same = same_ok e in
     let all : first.0 ∷ others.0 ≡ y.0 = ap (λ (z : List A × Ahead). z.0) same in
     let one = line_found (rule position) text i (i + 1) start first refl s first_is in
     let more = channels_found rule text (position + 1) n (i + 1) j first.1 others (omega (arith, m)) one.1
-        others_is in (
+    others_is in (
       λ k p l x there at_p at_l. each first.0 others.0 one.0 more.0 k p l x
           (ap (λ xs. slice_get xs k) all ∙ there) at_p at_l,
       sym (ap (λ (z : List A × Ahead). z.1) same) ∙ more.1,
@@ -134,7 +136,7 @@ channels_found {A} rule text position (suc n) i j start y m s e =
         let same_p : p ≡ position = omega (arith, at_p) in
         let same_l : l ≡ i + 1 = omega (arith, at_l) in
         ap (λ p. rule p l (fields_at text l)) same_p ∙ ap (λ l. rule position l (fields_at text l)) same_l
-            ∙ first ∙ ap Ok same
+        ∙ first ∙ ap Ok same
     each x xs first others (suc k) p l y there at_p at_l =
         others k p l y there (omega (arith, at_p)) (omega (arith, at_l))
 
@@ -142,19 +144,19 @@ channels_found {A} rule text position (suc n) i j start y m s e =
 pub channels_again : {A : Type 0} (rule : ℕ → LineRule A) (text : List Text) (position i j : ℕ) (xs : List A)
     → ((p l : ℕ) → rule p l [] ≡ Err (fault.Line l)) → j ≡ i + length xs
     → Each rule text position i xs → channel_lines rule position (length xs) (place text i)
-        ≡ Ok (xs, place text j)
+    ≡ Ok (xs, place text j)
 unfolding channel_lines
 channels_again {A} rule text position i j [] none m each =
     let same_j : i ≡ j = omega (arith, m) in
     ap (λ (j : ℕ). Ok ([], place text j)) same_j
 channels_again {A} rule text position i j (x ∷ xs) none m each =
     let first = line_again (rule position) text i (i + 1) x refl (none position (i + 1))
-        (each zero position (i + 1) x refl (omega arith) (omega arith)) in
+    (each zero position (i + 1) x refl (omega arith) (omega arith)) in
     let others = channels_again rule text (position + 1) (i + 1) j xs none (omega (arith, m))
-        (λ k p l y there at_p at_l. each (suc k) p l y there (omega (arith, at_p)) (omega (arith, at_l))) in
+    (λ k p l y there at_p at_l. each (suc k) p l y there (omega (arith, at_p)) (omega (arith, at_l))) in
     goes (on_line (rule position) (place text i)) _ (x, place text (i + 1)) first
-        ∙ goes (channel_lines rule (position + 1) (length xs) (place text (i + 1))) _ (xs, place text j)
-        others
+    ∙ goes (channel_lines rule (position + 1) (length xs) (place text (i + 1))) _ (xs, place text j)
+    others
 
 -- ---- the lines after the last
 
@@ -188,16 +190,16 @@ pub blank_found : (text : List Text) (i : ℕ) (a : Ahead) (u : Unit {0}) → a 
     → (k : ℕ) (line : Text) → i ≤ k → slice_get text k ≡ Some line → IsTrue (is_all_blank line)
 blank_found text i a u s e k line le there =
     let read : only_blank_lines (i + 1) (drop i text) ≡ Ok u =
-        ap (λ (a : Ahead). only_blank_lines a.number a.lines) (sym s) ∙ e in
+    ap (λ (a : Ahead). only_blank_lines a.number a.lines) (sym s) ∙ e in
     blank_in (i + 1) (drop i text) u read (k - i) line
-        (behind_get text i (k - i) k (omega (arith, le)) ∙ there)
+    (behind_get text i (k - i) k (omega (arith, le)) ∙ there)
 
 -- blank lines are read over
 blank_out : (number : ℕ) (lines : List Text) → AreBlank lines → only_blank_lines number lines ≡ Ok tt
 blank_out number [] h = refl
 blank_out number (l ∷ ls) h =
     ap (λ b. cond b (only_blank_lines (number + 1) ls) (Err (fault.Line number))) (h zero l refl)
-        ∙ blank_out (number + 1) ls (λ k line there. h (suc k) line there)
+    ∙ blank_out (number + 1) ls (λ k line there. h (suc k) line there)
 
 -- blank lines behind the first i are read
 pub blank_again : (text : List Text) (i : ℕ) → ((k : ℕ) (line : Text) → i ≤ k → slice_get text k ≡ Some line →

@@ -31,7 +31,7 @@ codes_found line [] x e = absurd cc
 codes_found line (a ∷ []) x e = absurd cc
 codes_found line (time_code ∷ local_code ∷ []) x e =
     from_bind (field_or_fault line 1 (code_of time_code)) _ x e
-        (λ t t_is e. from_bind (field_or_fault line 2 (local_code_of local_code)) _ x e (λ l l_is e.
+    (λ t t_is e. from_bind (field_or_fault line 2 (local_code_of local_code)) _ x e (λ l l_is e.
     let same_t : t ≡ x.0 = ap (λ (x : ℤ × Option ℤ). x.0) (same_ok e) in
     let same_l : l ≡ x.1 = ap (λ (x : ℤ × Option ℤ). x.1) (same_ok e) in
     record {
@@ -59,7 +59,7 @@ quality_found line [] x e = absurd cc
 quality_found line (a ∷ []) x e = absurd cc
 quality_found line (tmq_code ∷ leapsec ∷ []) x e =
     from_bind (field_or_fault line 1 (hexadecimal tmq_code)) _ x e
-        (λ q q_is e. from_bind (leap_field line 2 leapsec) _ x e (λ l l_is e.
+    (λ q q_is e. from_bind (leap_field line 2 leapsec) _ x e (λ l l_is e.
     let same_q : q ≡ x.0 = ap (λ (x : ℕ × ℕ). x.0) (same_ok e) in
     let same_l : l ≡ x.1 = ap (λ (x : ℕ × ℕ). x.1) (same_ok e) in
     let leap = leap_found line 2 leapsec x.1 (l_is ∙ ap Ok same_l) in
@@ -79,9 +79,9 @@ codes_again : (line : ℕ) (codes quality : List Text) (z : Zone) → AreZoneLin
 codes_again line codes quality z h =
     ap (time_code_line line) h.codes_are
     ∙ goes (field_or_fault line 1 (code_of h.time_code)) _ z.time_code
-        (ap (λ o. field_or_fault line 1 o) h.time_code_is)
+    (ap (λ o. field_or_fault line 1 o) h.time_code_is)
     ∙ goes (field_or_fault line 2 (local_code_of h.local_code)) _ z.local_code
-        (ap (λ o. field_or_fault line 2 o) h.local_code_is)
+    (ap (λ o. field_or_fault line 2 o) h.local_code_is)
 
 -- a time quality line is read
 quality_again : (line : ℕ) (codes quality : List Text) (z : Zone) → AreZoneLines codes quality z →
@@ -89,7 +89,7 @@ quality_again : (line : ℕ) (codes quality : List Text) (z : Zone) → AreZoneL
 quality_again line codes quality z h =
     ap (time_quality_line line) h.quality_are
     ∙ goes (field_or_fault line 1 (hexadecimal h.tmq_code)) _ z.quality
-        (ap (λ o. field_or_fault line 1 o) h.tmq_code_is)
+    (ap (λ o. field_or_fault line 1 o) h.tmq_code_is)
     ∙ goes (leap_field line 2 h.leapsec) _ z.leap (leap_again line 2 h.leapsec z.leap h.leapsec_is h.known)
 
 -- ---- both
@@ -108,7 +108,7 @@ both_found : (text : List Text) (revision i k : ℕ) (start : Ahead) (y : Option
     revision ≡ 2013 → start ≡ place text i → zone_lines true start ≡ Ok y → Found text revision i k y
 both_found text revision i k start y n is s e =
     from_bind (on_line time_code_line start) _ y e (λ codes codes_is e. from_bind
-        (on_line time_quality_line codes.1) _ y e (λ quality quality_is e.
+    (on_line time_quality_line codes.1) _ y e (λ quality quality_is e.
     let first = line_found time_code_line text i k start codes n s codes_is in
     let second = line_found time_quality_line text k (k + 1) codes.1 quality refl first.1 quality_is in
     let c = codes_found k (fields_at text k) codes.0 first.0 in
@@ -154,13 +154,13 @@ pub zone_again : (text : List Text) (revision i k : ℕ) (zone : Option Zone) �
 zone_again text revision i k None n is =
     let m : i ≡ i + 0 = omega arith in
     ap (λ b. zone_lines b (place text i)) (ne_eqb revision 2013 (λ h. omega (arith, is, h)))
-        ∙ ap (λ (m : ℕ). Ok (None, place text m)) m
+    ∙ ap (λ (m : ℕ). Ok (None, place text m)) m
 zone_again text revision i k (Some z) n (is, h) =
     let m : k + 1 ≡ i + 2 = omega (arith, n) in
     let first = line_again time_code_line text i k (z.time_code, z.local_code) n refl
-        (codes_again k (fields_at text k) (fields_at text (k + 1)) z h) in
+    (codes_again k (fields_at text k) (fields_at text (k + 1)) z h) in
     let second = line_again time_quality_line text k (k + 1) (z.quality, z.leap) refl refl
-        (quality_again (k + 1) (fields_at text k) (fields_at text (k + 1)) z h) in
+    (quality_again (k + 1) (fields_at text k) (fields_at text (k + 1)) z h) in
     ap (λ b. zone_lines b (place text i)) (eq-eqb revision 2013 is)
     ∙ goes (on_line time_code_line (place text i)) _ ((z.time_code, z.local_code), place text k) first
     ∙ goes (on_line time_quality_line (place text k)) _ ((z.quality, z.leap), place text (k + 1)) second

@@ -6,6 +6,7 @@ pub mod TwoIntervalsCfg
 mod StandardFacts
 mod OtherFacts
 pub mod ValueLemmas
+pub mod SelectionLaws
 pub mod ReadBackText
 pub mod CanonicalFacts
 pub mod ReadBackFacts
@@ -19,3 +20,5 @@ pub mod GrammarZone
 pub mod GrammarFound
 pub mod GrammarOnly
 pub mod GrammarLaws
+pub mod LocalReading
+pub mod FaultOrderLaws

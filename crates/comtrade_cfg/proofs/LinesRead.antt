@@ -1,19 +1,20 @@
 -- What the lines of a text that says a configuration were read as, one after another.
-use Rattle.std.proofs.Common.{◌≡◌, ℕ, ℤ, Option, List, Ok}
+use Rattle.std.proofs.Common.{◌≡◌, ◌∙◌, ap, ℕ, ℤ, Option, List, Result, Ok}
 use Rattle.std.specs.Prelude.{◌==◌}
+use Rattle.pq_words.specs.FirstFault.{◌>>=◌}
 use Rattle.pq_words.specs.Text.{Text}
 use Rattle.pq_time.specs.Moment.{utc_of}
 use Rattle.comtrade_cfg.specs.declared.cfg.Analogue.{Analogue}
 use Rattle.comtrade_cfg.specs.declared.cfg.StatusLine.{StatusLine}
 use Rattle.comtrade_cfg.specs.declared.cfg.Zone.{Zone}
 use Rattle.comtrade_cfg.specs.declared.cfg.FileType.{FileType}
-use Rattle.comtrade_cfg.specs.declared.head.Station.{Station}
-use Rattle.comtrade_cfg.specs.declared.head.ChannelCounts.{ChannelCounts}
-use Rattle.comtrade_cfg.specs.declared.sampling.Sampling.{Sampling}
+use Rattle.comtrade_cfg.specs.declared.head_lines.Station.{Station}
+use Rattle.comtrade_cfg.specs.declared.head_lines.ChannelCounts.{ChannelCounts}
+use Rattle.comtrade_cfg.specs.declared.sampling_lines.Sampling.{Sampling}
 use Rattle.comtrade_cfg.specs.Configuration.{Configuration}
 use Rattle.cfg_fields.specs.Fields.{Ahead, on_line, only_blank_lines}
 use Rattle.cfg_fields.proofs.ReadingLaws.{from_bind, same_ok}
-use Rattle.comtrade_cfg.specs.CfgText.{configuration_ahead, channel_lines, station_line, counts_line, analogue_line, status_line, frequency_line, rates_line, sampling_line, stamp_line, file_type_line, timemult_line, zone_lines, offset_of}
+use Rattle.comtrade_cfg.specs.CfgText.{configuration_ahead, lines_behind, channel_lines, station_line, counts_line, analogue_line, status_line, frequency_line, rates_line, sampling_line, stamp_line, file_type_line, timemult_line, zone_lines, offset_of}
 
 -- what each line was read as, and what then lay ahead
 pub record LinesRead (start : Ahead) (c : Configuration) : Type 0 where
@@ -59,7 +60,7 @@ pub record LinesRead (start : Ahead) (c : Configuration) : Type 0 where
   } ≡ c
 
 pub lines_read : (start : Ahead) (c : Configuration) → configuration_ahead start ≡ Ok c → LinesRead start c
-unfolding configuration_ahead
+unfolding configuration_ahead lines_behind
 lines_read start c e =
     from_bind _ _ c e (λ station station_is after_station.
     from_bind _ _ c after_station (λ counts counts_is after_counts.
@@ -74,9 +75,55 @@ lines_read start c e =
     from_bind _ _ c after_file_type (λ timemult timemult_is after_timemult.
     from_bind _ _ c after_timemult (λ zone zone_is after_zone.
     from_bind _ _ c after_zone (λ ended ended_is after_ended.
-    record { station = station; counts = counts; analogue = analogue; status = status; lf = lf; rates = rates;
-        sampling = sampling; first = first; trigger = trigger; file_type = file_type; timemult = timemult;
-        zone = zone; station_is = station_is; counts_is = counts_is; analogue_is = analogue_is; status_is =
-        status_is; lf_is = lf_is; rates_is = rates_is; sampling_is = sampling_is; first_is = first_is;
-        trigger_is = trigger_is; file_type_is = file_type_is; timemult_is = timemult_is; zone_is = zone_is;
-        ended_is = ended_is; is = same_ok after_ended })))))))))))))
+    record {
+      station = station;
+      counts = counts;
+      analogue = analogue;
+      status = status;
+      lf = lf;
+      rates = rates;
+      sampling = sampling;
+      first = first;
+      trigger = trigger;
+      file_type = file_type;
+      timemult = timemult;
+      zone = zone;
+      station_is = station_is;
+      counts_is = counts_is;
+      analogue_is = analogue_is;
+      status_is =
+          status_is;
+      lf_is = lf_is;
+      rates_is = rates_is;
+      sampling_is = sampling_is;
+      first_is = first_is;
+      trigger_is = trigger_is;
+      file_type_is = file_type_is;
+      timemult_is = timemult_is;
+      zone_is = zone_is;
+      ended_is = ended_is;
+      is = same_ok after_ended;
+    })))))))))))))
+
+-- a step that finds no fault, and what comes after it
+pub then_ok : {A B E : Type 0} (r : Result A E) (f : A → Result B E) (x : A) (y : Result B E) → r ≡ Ok x → f x
+    ≡ y → (r >>= f) ≡ y
+then_ok r f x y e g = ap (λ r. r >>= f) e ∙ g
+
+-- lines that were read one after another say the configuration
+pub all_read : (start : Ahead) (c : Configuration) → LinesRead start c → configuration_ahead start ≡ Ok c
+unfolding configuration_ahead lines_behind
+all_read start c r =
+    then_ok (on_line station_line start) _ r.station _ r.station_is
+    (then_ok (on_line counts_line r.station.1) _ r.counts _ r.counts_is
+    (then_ok (channel_lines analogue_line 1 r.counts.0.analogue r.counts.1) _ r.analogue _ r.analogue_is
+    (then_ok (channel_lines status_line 1 r.counts.0.status r.analogue.1) _ r.status _ r.status_is
+    (then_ok (on_line frequency_line r.status.1) _ r.lf _ r.lf_is
+    (then_ok (on_line rates_line r.lf.1) _ r.rates _ r.rates_is
+    (then_ok (on_line (sampling_line r.lf.0) r.rates.1) _ r.sampling _ r.sampling_is
+    (then_ok (on_line stamp_line r.sampling.1) _ r.first _ r.first_is
+    (then_ok (on_line stamp_line r.first.1) _ r.trigger _ r.trigger_is
+    (then_ok (on_line file_type_line r.trigger.1) _ r.file_type _ r.file_type_is
+    (then_ok (on_line timemult_line r.file_type.1) _ r.timemult _ r.timemult_is
+    (then_ok (zone_lines (r.station.0.revision == 2013) r.timemult.1) _ r.zone _ r.zone_is
+    (then_ok (only_blank_lines r.zone.1.number r.zone.1.lines) _ tt _ r.ended_is (ap Ok r.is)))))))))))))

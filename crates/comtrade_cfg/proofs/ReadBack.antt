@@ -1,5 +1,5 @@
 -- A canonical text says the configuration that it is printed of.
-use Rattle.std.proofs.Common.{◌≡◌, ℕ, ◌+◌, ◌==◌, cond, ℤ, List, [], ◌∷◌, ◌++◌, map, length, Ok, Err, refl, ap, ◌∙◌, arith, append_assoc}
+use Rattle.std.proofs.Common.{◌≡◌, ℕ, ◌+◌, ◌==◌, cond, ℤ, List, [], ◌∷◌, ◌++◌, map, length, Ok, Err, refl, ap, ◌∙◌, arith}
 use Rattle.std.specs.Prelude.{decimal}
 use Rattle.std.specs.List.{AllByRecursion}
 use Rattle.std.specs.Str.Lines.{lines}
@@ -10,79 +10,38 @@ use Rattle.pq_time.specs.Moment.{utc_of, written_of}
 use Rattle.cfg_fields.specs.declared.fault.CfgFault.TheVariants as fault
 use Rattle.cfg_fields.specs.declared.fault.Quantity.TheVariants as quantity
 use Rattle.comtrade_cfg.specs.Configuration.{Configuration}
-use Rattle.cfg_fields.specs.Fields.{Ahead, ahead_of, on_line, only_blank_lines}
-use Rattle.comtrade_cfg.specs.CfgText.{configuration_of, configuration_ahead, channel_lines, station_line, counts_line, analogue_line, status_line, frequency_line, rates_line, sampling_line, stamp_line, file_type_line, timemult_line, zone_lines, offset_of}
-use Rattle.comtrade_cfg.specs.Canonical.{row_of, rate_text, stamp_text, date_text, time_text, file_type_text, analogue_fields, status_fields, numbered_rows, zone_rows, canonical_lines, canonical_text, ReadsBack}
-use Rattle.comtrade_cfg.specs.CanonicalParts.{lines_text}
+use Rattle.cfg_fields.specs.Fields.{ahead_of}
+use Rattle.comtrade_cfg.specs.CfgText.{configuration_of, configuration_ahead, analogue_line, status_line, offset_of}
+use Rattle.comtrade_cfg.specs.Canonical.{behind_rows, row_of, rate_text, stamp_text, date_text, time_text, file_type_text, analogue_fields, status_fields, numbered_rows, zone_rows, canonical_lines, canonical_text, ReadsBack}
 use Rattle.pq_time.specs.Printed.{date_shown, time_shown}
-use Rattle.comtrade_cfg.proofs.LinesRead.{LinesRead}
+use Rattle.comtrade_cfg.proofs.LinesRead.{all_read}
 use Rattle.comtrade_cfg.proofs.ReadBackText.{lines_back, row_free}
 use Rattle.cfg_fields.proofs.FieldTexts.{IsFree}
 use Rattle.comtrade_cfg.proofs.ReadBackFacts.{IsGood, configuration_good, IsGoodAnalogue, IsGoodStatus}
-use Rattle.comtrade_cfg.proofs.ReadBackLines.{then_ok, small_frequency, decimal_field_of, station_is_fields, station_back, counts_are_fields, counts_back, channels_back, channels_free, analogue_are_fields, analogue_value, status_are_fields, status_value, frequency_back, rates_back, sampling_are_fields, sampling_back, stamp_are_fields, stamp_back, file_type_is_field, file_type_back, timemult_back, zone_back, zone_free}
-
--- lines that were read one after another say the configuration
-all_read : (start : Ahead) (c : Configuration) → LinesRead start c → configuration_ahead start ≡ Ok c
-unfolding configuration_ahead
-all_read start c r =
-    then_ok (on_line station_line start) _ r.station _ r.station_is
-    (then_ok (on_line counts_line r.station.1) _ r.counts _ r.counts_is
-    (then_ok (channel_lines analogue_line 1 r.counts.0.analogue r.counts.1) _ r.analogue _ r.analogue_is
-    (then_ok (channel_lines status_line 1 r.counts.0.status r.analogue.1) _ r.status _ r.status_is
-    (then_ok (on_line frequency_line r.status.1) _ r.lf _ r.lf_is
-    (then_ok (on_line rates_line r.lf.1) _ r.rates _ r.rates_is
-    (then_ok (on_line (sampling_line r.lf.0) r.rates.1) _ r.sampling _ r.sampling_is
-    (then_ok (on_line stamp_line r.sampling.1) _ r.first _ r.first_is
-    (then_ok (on_line stamp_line r.first.1) _ r.trigger _ r.trigger_is
-    (then_ok (on_line file_type_line r.trigger.1) _ r.file_type _ r.file_type_is
-    (then_ok (on_line timemult_line r.file_type.1) _ r.timemult _ r.timemult_is
-    (then_ok (zone_lines (r.station.0.revision == 2013) r.timemult.1) _ r.zone _ r.zone_is
-    (then_ok (only_blank_lines r.zone.1.number r.zone.1.lines) _ tt _ r.ended_is (ap Ok r.is)))))))))))))
+use Rattle.comtrade_cfg.proofs.ReadBackLines.{small_frequency, decimal_field_of, station_is_fields, station_back, counts_are_fields, counts_back, channels_back, channels_free, analogue_are_fields, analogue_value, status_are_fields, status_value, frequency_back, rates_back, sampling_are_fields, sampling_back, stamp_are_fields, stamp_back, file_type_is_field, file_type_back, timemult_back, zone_back, zone_free}
 
 utc_again : (utc minutes : ℤ) → utc_of (written_of utc minutes) minutes ≡ utc
 utc_again utc minutes = omega (arith, signed_arith)
 
--- the lines behind the channels
-abbrev tail_lines : Configuration → List Text
-tail_lines c =
-    decimal c.lf ∷ decimal 1 ∷ row_of (rate_text c.rate ∷ decimal c.endsamp ∷ [])
-    ∷ stamp_text (written_of c.first (offset_of c.zone)) ∷ stamp_text
-        (written_of c.trigger (offset_of c.zone))
-    ∷ file_type_text c.file_type ∷ c.timemult ∷ zone_rows c.zone
-
--- all lines
-abbrev all_lines : Configuration → List Text
-all_lines c =
-    row_of (c.station ∷ c.device ∷ decimal c.revision ∷ [])
-    ∷ row_of (decimal (length c.analogue + length c.status) ∷ (decimal (length c.analogue) ++ 65 ∷ []) ∷
-        (decimal (length c.status) ++ 68 ∷ []) ∷ [])
-    ∷ (numbered_rows 1 (map analogue_fields c.analogue)
-        ++ (numbered_rows 1 (map status_fields c.status) ++ tail_lines c))
-
-grouped : (c : Configuration) → canonical_lines c ≡ all_lines c
-grouped c =
-    ap (λ more. row_of (c.station ∷ c.device ∷ decimal c.revision ∷ []) ∷ row_of
-        (decimal (length c.analogue + length c.status) ∷ (decimal (length c.analogue) ++ 65 ∷ []) ∷
-        (decimal (length c.status) ++ 68 ∷ []) ∷ []) ∷ more)
-    (append_assoc (numbered_rows 1 (map analogue_fields c.analogue))
-        (numbered_rows 1 (map status_fields c.status)) (tail_lines c))
-
 -- each of them is read
-whole : (c : Configuration) → IsGood c → configuration_ahead (record { number = 1; lines = all_lines c })
+whole : (c : Configuration) → IsGood c → configuration_ahead (record {
+  number = 1;
+  lines = canonical_lines c;
+})
     ≡ Ok c
 whole c g =
     let b = g.bounds in
-    let tail : List Text = tail_lines c in
+    let tail : List Text = behind_rows c in
     let status_lines : List Text = numbered_rows 1 (map status_fields c.status) ++ tail in
     let analogue_lines : List Text = numbered_rows 1 (map analogue_fields c.analogue) ++ status_lines in
     let station = station_back 1 c.station c.device c.revision
-        (row_of (decimal (length c.analogue + length c.status) ∷ (decimal (length c.analogue) ++ 65 ∷ []) ∷
-        (decimal (length c.status) ++ 68 ∷ []) ∷ []) ∷ analogue_lines) g.station g.device g.revision in
+    (row_of (decimal (length c.analogue + length c.status) ∷ (decimal (length c.analogue) ++ 65 ∷ []) ∷
+    (decimal (length c.status) ++ 68 ∷ []) ∷ []) ∷ analogue_lines) g.station g.device g.revision in
     let counts = counts_back 2 (length c.analogue) (length c.status) analogue_lines b.analogue b.status in
     let analogue = channels_back analogue_line analogue_fields IsGoodAnalogue analogue_are_fields
-        analogue_value 1 3 c.analogue status_lines g.analogue (omega (arith, b.analogue)) in
+    analogue_value 1 3 c.analogue status_lines g.analogue (omega (arith, b.analogue)) in
     let status = channels_back status_line status_fields IsGoodStatus status_are_fields status_value 1
-        analogue.0 c.status tail g.status (omega (arith, b.status)) in
+    analogue.0 c.status tail g.status (omega (arith, b.status)) in
     let n : ℕ = status.0 in
     let first : ℤ = written_of c.first (offset_of c.zone) in
     let trigger : ℤ = written_of c.trigger (offset_of c.zone) in
@@ -94,19 +53,28 @@ whole c g =
     let sampling_rest : List Text = stamp_text first ∷ first_rest in
     let rates_rest : List Text = row_of (rate_text c.rate ∷ decimal c.endsamp ∷ []) ∷ sampling_rest in
     let lf_rest : List Text = decimal 1 ∷ rates_rest in
-    all_read (record { number = 1; lines = all_lines c }) c (record {
-      station = (record { station = c.station; device = c.device; revision = c.revision },
-          record { number = 2; lines = row_of (decimal (length c.analogue + length c.status) ∷
-          (decimal (length c.analogue) ++ 65 ∷ []) ∷ (decimal (length c.status) ++ 68 ∷ []) ∷ []) ∷
-          analogue_lines });
-      counts = (record { analogue = length c.analogue; status = length c.status },
-          record { number = 3; lines = analogue_lines });
+    all_read (record { number = 1; lines = canonical_lines c }) c (record {
+      station = (
+        record { station = c.station; device = c.device; revision = c.revision },
+        record {
+          number = 2;
+          lines = row_of (decimal (length c.analogue + length c.status) ∷
+              (decimal (length c.analogue) ++ 65 ∷ []) ∷ (decimal (length c.status) ++ 68 ∷ []) ∷ []) ∷
+              analogue_lines;
+        },
+      );
+      counts = (
+        record { analogue = length c.analogue; status = length c.status },
+        record { number = 3; lines = analogue_lines },
+      );
       analogue = (c.analogue, record { number = analogue.0; lines = status_lines });
       status = (c.status, record { number = n; lines = tail });
       lf = (c.lf, record { number = n + 1; lines = lf_rest });
       rates = (1, record { number = n + 1 + 1; lines = rates_rest });
-      sampling = (record { rate = c.rate; endsamp = c.endsamp },
-          record { number = n + 1 + 1 + 1; lines = sampling_rest });
+      sampling = (
+        record { rate = c.rate; endsamp = c.endsamp },
+        record { number = n + 1 + 1 + 1; lines = sampling_rest },
+      );
       first = (first, record { number = n + 1 + 1 + 1 + 1; lines = first_rest });
       trigger = (trigger, record { number = n + 1 + 1 + 1 + 1 + 1; lines = trigger_rest });
       file_type = (c.file_type, record { number = n + 1 + 1 + 1 + 1 + 1 + 1; lines = type_rest });
@@ -161,12 +129,12 @@ whole c g =
     }
 
 -- no line feed stands in a line
-lines_free : (c : Configuration) → IsGood c → AllByRecursion (IsFree 10) (all_lines c)
+lines_free : (c : Configuration) → IsGood c → AllByRecursion (IsFree 10) (canonical_lines c)
 lines_free c g =
     let b = g.bounds in
     let first : ℤ = written_of c.first (offset_of c.zone) in
     let trigger : ℤ = written_of c.trigger (offset_of c.zone) in
-    let tail : AllByRecursion (IsFree 10) (tail_lines c) = (
+    let tail : AllByRecursion (IsFree 10) (behind_rows c) = (
       row_free (decimal c.lf) [] (decimal_field_of c.lf (small_frequency c.lf b.lf), tt),
       (
         row_free (decimal 1) [] (decimal_field_of 1 (omega arith), tt),
@@ -189,15 +157,18 @@ lines_free c g =
       ),
     ) in
     let status = channels_free status_line status_fields IsGoodStatus status_are_fields status_value 1
-        c.status (tail_lines c) g.status (omega (arith, b.status)) tail in
+    c.status (behind_rows c) g.status (omega (arith, b.status)) tail in
     let analogue = channels_free analogue_line analogue_fields IsGoodAnalogue analogue_are_fields
-        analogue_value 1 c.analogue (numbered_rows 1 (map status_fields c.status) ++ tail_lines c) g.analogue
-        (omega (arith, b.analogue)) status in (
+    analogue_value 1 c.analogue (numbered_rows 1 (map status_fields c.status) ++ behind_rows c) g.analogue
+    (omega (arith, b.analogue)) status in (
       row_free c.station (c.device ∷ decimal c.revision ∷ [])
           (station_is_fields c.station c.device c.revision g.station g.device g.revision),
-      (row_free (decimal (length c.analogue + length c.status))
-          ((decimal (length c.analogue) ++ 65 ∷ []) ∷ (decimal (length c.status) ++ 68 ∷ []) ∷ [])
-          (counts_are_fields (length c.analogue) (length c.status) b.analogue b.status), analogue),
+      (
+        row_free (decimal (length c.analogue + length c.status))
+            ((decimal (length c.analogue) ++ 65 ∷ []) ∷ (decimal (length c.status) ++ 68 ∷ []) ∷ [])
+            (counts_are_fields (length c.analogue) (length c.status) b.analogue b.status),
+        analogue,
+      ),
     )
 
 -- the law of printing
@@ -205,9 +176,9 @@ pub reads_back : ReadsBack
 unfolding canonical_text configuration_of
 reads_back c says few =
     let g = configuration_good c says in
-    let text : lines (canonical_text c) ≡ all_lines c = ap (λ ls. lines (lines_text ls)) (grouped c)
-        ∙ lines_back (all_lines c) (lines_free c g) in
+    let text : lines (canonical_text c) ≡ canonical_lines c = lines_back (canonical_lines c)
+    (lines_free c g) in
     ap (λ b. cond b (configuration_ahead (ahead_of (canonical_text c)))
-        (Err (fault.Limit quantity.CfgBytes 0))) (le-leb (length (canonical_text c)) 1048576 few)
+    (Err (fault.Limit quantity.CfgBytes 0))) (le-leb (length (canonical_text c)) 1048576 few)
     ∙ ap (λ ls. configuration_ahead (record { number = 1; lines = ls })) text
     ∙ whole c g

@@ -16,7 +16,7 @@ use Rattle.pq_time.specs.Moment.{moment_at, written_of, utc_of}
 use Rattle.comtrade_cfg.specs.declared.cfg.Analogue.{Analogue}
 use Rattle.comtrade_cfg.specs.declared.cfg.StatusLine.{StatusLine}
 use Rattle.comtrade_cfg.specs.declared.cfg.Zone.{Zone}
-use Rattle.comtrade_cfg.specs.declared.head.Station.{Station}
+use Rattle.comtrade_cfg.specs.declared.head_lines.Station.{Station}
 use Rattle.cfg_fields.specs.declared.fault.CfgFault.TheVariants as fault
 use Rattle.cfg_fields.specs.declared.fault.Unsupported.TheVariants as unsupported
 use Rattle.comtrade_cfg.specs.Configuration.{Configuration}
@@ -27,7 +27,8 @@ use Rattle.comtrade_cfg.proofs.CanonicalFacts.{fields_are, lines_are}
 use Rattle.comtrade_cfg.proofs.LinesRead.{LinesRead}
 use Rattle.cfg_fields.proofs.ReadingLaws.{line_read, from_bind, same_ok}
 use Rattle.cfg_fields.proofs.WrittenFacts.{IsClockTime, date_civil, time_clock, code_small}
-use Rattle.comtrade_cfg.proofs.ConfigurationBounds.{IsCivil, civil, IsBounded, bounded, from_text, stamp_read, quality_small}
+use Rattle.comtrade_cfg.specs.Bounds.{IsBounded}
+use Rattle.comtrade_cfg.proofs.ConfigurationBounds.{IsCivil, civil, bounded, from_text, stamp_read, quality_small}
 
 -- ---- one line
 
@@ -42,9 +43,10 @@ next_free : (number : ℕ) (lines : List Text) (line : Text) (after : Ahead) →
     → line_of number lines ≡ Ok (line, after) → IsFree 10 line × AllByRecursion (IsFree 10) after.lines
 next_free number [] line after h e = absurd cc
 next_free number (first ∷ others) line after h e =
-    let same = same_ok e in
-    (subst (IsFree 10) (ap (λ (p : Text × Ahead). p.0) same) h.0,
-        subst (AllByRecursion (IsFree 10)) (ap (λ (p : Text × Ahead). p.1.lines) same) h.1)
+    let same = same_ok e in (
+      subst (IsFree 10) (ap (λ (p : Text × Ahead). p.0) same) h.0,
+      subst (AllByRecursion (IsFree 10)) (ap (λ (p : Text × Ahead). p.1.lines) same) h.1,
+    )
 
 pub fields_read : {A : Type 0} (rule : LineRule A) (start : Ahead) (y : A × Ahead) → on_line rule start ≡ Ok y
     → AllByRecursion (IsFree 10) start.lines → FieldsRead rule start.number y
@@ -82,8 +84,12 @@ pub decimal_read : (line field : ℕ) (text value : Text) → IsField text → d
 unfolding decimal_text decimal_field
 decimal_read line field text value h e =
     from_bind (field_or_fault line field (decimal_of text)) _ value e (λ x x_is e.
-    subst IsDecimal (same_ok e) (record { field = h; value = x; is =
-        some_ok (decimal_of text) (fault.Field line field) x x_is }))
+    subst IsDecimal (same_ok e) (record {
+      field = h;
+      value = x;
+      is =
+          some_ok (decimal_of text) (fault.Field line field) x x_is;
+    }))
 
 -- ---- station and channels
 
@@ -108,11 +114,15 @@ station_fields_read : (line : ℕ) (station device revision : Text) (s : Station
 unfolding station_fields
 station_fields_read line station device revision s p q e =
     from_bind (text_field line 1 station) _ s e (λ a a_is e. from_bind (text_field line 2 device) _ s e
-        (λ b b_is e. from_bind (number_field line 3 revision) _ s e (λ n n_is e.
+    (λ b b_is e. from_bind (number_field line 3 revision) _ s e (λ n n_is e.
     let g = provided_ok ((n == 1999) || (n == 2013)) (fault.Unsupported unsupported.Revision line)
-        (record { station = a; device = b; revision = n }) s e in
-    subst IsGoodStation g.1 (record { station = text_read line 1 station a p a_is; device =
-        text_read line 2 device b q b_is; revision = known_revision n g.0 }))))
+    (record { station = a; device = b; revision = n }) s e in
+    subst IsGoodStation g.1 (record {
+      station = text_read line 1 station a p a_is;
+      device =
+          text_read line 2 device b q b_is;
+      revision = known_revision n g.0;
+    }))))
 
 station_good : (line : ℕ) (fields : List Text) (s : Station) → AllByRecursion IsField fields →
     station_line line fields ≡ Ok s → IsGoodStation s
@@ -139,9 +149,9 @@ pub record IsGoodAnalogue (ch : Analogue) : Type 0 where
 analogue_fields_read : (position line : ℕ) (an id phase component unit a b skew min max primary secondary ps :
     Text) (ch : Analogue)
     → AllByRecursion IsField (id ∷ phase ∷ component ∷ unit ∷ a ∷ b ∷ skew ∷ min ∷ max ∷ primary ∷ secondary ∷
-        ps ∷ [])
+    ps ∷ [])
     → analogue_fields position line an id phase component unit a b skew min max primary secondary ps ≡ Ok ch →
-        IsGoodAnalogue ch
+    IsGoodAnalogue ch
 unfolding analogue_fields
 analogue_fields_read position line an id phase component unit a b skew min max primary secondary ps ch h e =
     from_bind (position_field position line 1 an) _ ch e (λ n n_is e.
@@ -177,7 +187,7 @@ analogue_good : (position line : ℕ) (fields : List Text) (ch : Analogue) → A
 analogue_good position line (an ∷ id ∷ phase ∷ component ∷ unit ∷ a ∷ b ∷ skew ∷ min ∷ max ∷ primary ∷
     secondary ∷ ps ∷ []) ch h e =
     analogue_fields_read position line an id phase component unit a b skew min max primary secondary ps ch h.1
-        e
+    e
 analogue_good position line _ ch h e = absurd cc
 
 pub record IsGoodStatus (ch : StatusLine) : Type 0 where
@@ -196,9 +206,14 @@ status_fields_read position line dn id phase component normal ch h e =
     from_bind (text_field line 3 phase) _ ch e (λ f3 is3 e.
     from_bind (text_field line 4 component) _ ch e (λ f4 is4 e.
     from_bind (text_field line 5 normal) _ ch e (λ f5 is5 e.
-    subst IsGoodStatus (same_ok e) (record { id = text_read line 2 id f2 h.0 is2; phase =
-        text_read line 3 phase f3 h.1.0 is3; component = text_read line 4 component f4 h.1.1.0 is4; normal =
-        text_read line 5 normal f5 h.1.1.1.0 is5 }))))))
+    subst IsGoodStatus (same_ok e) (record {
+      id = text_read line 2 id f2 h.0 is2;
+      phase =
+          text_read line 3 phase f3 h.1.0 is3;
+      component = text_read line 4 component f4 h.1.1.0 is4;
+      normal =
+          text_read line 5 normal f5 h.1.1.1.0 is5;
+    }))))))
 
 status_good : (position line : ℕ) (fields : List Text) (ch : StatusLine) → AllByRecursion IsField fields →
     status_line position line fields ≡ Ok ch → IsGoodStatus ch
@@ -211,15 +226,16 @@ pub channels_good : {A : Type 0} (rule : ℕ → LineRule A) (P : A → Type 0) 
     ((position line : ℕ) (fields : List Text) (x : A) → AllByRecursion IsField fields →
     rule position line fields ≡ Ok x → P x)
     → (position n : ℕ) (start : Ahead) (y : List A × Ahead) → channel_lines rule position n start ≡ Ok y →
-        AllByRecursion (IsFree 10) start.lines → AllByRecursion P y.0 × AllByRecursion (IsFree 10) y.1.lines
+    AllByRecursion (IsFree 10) start.lines → AllByRecursion P y.0 × AllByRecursion (IsFree 10) y.1.lines
 unfolding channel_lines
 channels_good {A} rule P each position zero start y e h =
-    let same = same_ok e in
-    (subst (AllByRecursion P) (ap (λ (z : List A × Ahead). z.0) same) tt,
-        subst (AllByRecursion (IsFree 10)) (ap (λ (z : List A × Ahead). z.1.lines) same) h)
+    let same = same_ok e in (
+      subst (AllByRecursion P) (ap (λ (z : List A × Ahead). z.0) same) tt,
+      subst (AllByRecursion (IsFree 10)) (ap (λ (z : List A × Ahead). z.1.lines) same) h,
+    )
 channels_good {A} rule P each position (suc n) start y e h =
     from_bind (on_line (rule position) start) _ y e (λ first first_is e. from_bind
-        (channel_lines rule (position + 1) n first.1) _ y e (λ others others_is e.
+    (channel_lines rule (position + 1) n first.1) _ y e (λ others others_is e.
     let same = same_ok e in
     let r = fields_read (rule position) start first first_is h in
     let more = channels_good rule P each (position + 1) n first.1 others others_is r.after in (
@@ -243,8 +259,14 @@ stamp_good : (line : ℕ) (fields : List Text) (written : ℤ) → stamp_line li
 stamp_good line fields written e =
     let s = stamp_read line fields written e in
     let m = s.2 in
-    record { day = m.day; clock = m.clock; civil = civil m.day (date_civil s.0 m.day m.day_is); in_day =
-        time_clock s.1 m.clock m.clock_is; is = m.is }
+    record {
+      day = m.day;
+      clock = m.clock;
+      civil = civil m.day (date_civil s.0 m.day m.day_is);
+      in_day =
+          time_clock s.1 m.clock m.clock_is;
+      is = m.is;
+    }
 
 -- the offset is taken away and added again
 written_again : (written minutes : ℤ) → written_of (utc_of written minutes) minutes ≡ written
@@ -281,7 +303,7 @@ codes_good line [] x e = absurd cc
 codes_good line (a ∷ []) x e = absurd cc
 codes_good line (time_code ∷ local_code ∷ []) x e =
     from_bind (field_or_fault line 1 (code_of time_code)) _ x e
-        (λ t t_is e. from_bind (field_or_fault line 2 (local_code_of local_code)) _ x e (λ l l_is e.
+    (λ t t_is e. from_bind (field_or_fault line 2 (local_code_of local_code)) _ x e (λ l l_is e.
     let same = same_ok e in (
       subst (IsWithin 899) (ap (λ (x : ℤ × Option ℤ). x.0) same)
           (code_small time_code t (some_ok (code_of time_code) _ t t_is)),
@@ -307,7 +329,7 @@ leap_good line [] x e = absurd cc
 leap_good line (a ∷ []) x e = absurd cc
 leap_good line (tmq_code ∷ leapsec ∷ []) x e =
     from_bind (field_or_fault line 1 (hexadecimal tmq_code)) _ x e
-        (λ q q_is e. from_bind (leap_field line 2 leapsec) _ x e (λ l l_is e.
+    (λ q q_is e. from_bind (leap_field line 2 leapsec) _ x e (λ l l_is e.
     subst (λ n. (n ≡ 0) ⊎ (n ≡ 3)) (ap (λ (x : ℕ × ℕ). x.1) (same_ok e)) (leap_known line 2 leapsec l l_is)))
 leap_good line (a ∷ b ∷ c ∷ more) x e = absurd cc
 
@@ -320,7 +342,7 @@ zone_good : (is_2013 : Bool) (start : Ahead) (y : Option Zone × Ahead) → zone
     HasZone is_2013 y.0
 zone_good true start y e =
     from_bind (on_line time_code_line start) _ y e (λ codes codes_is e. from_bind
-        (on_line time_quality_line codes.1) _ y e (λ quality quality_is e.
+    (on_line time_quality_line codes.1) _ y e (λ quality quality_is e.
     let r = line_read time_code_line start codes codes_is in
     let s = line_read time_quality_line codes.1 quality quality_is in
     let c = codes_good start.number (fields_of r.line) codes.0 r.value in
@@ -357,9 +379,9 @@ good start c r h =
     let s = station_good start.number station.fields r.station.0 station.are station.value in
     let counts = fields_read counts_line r.station.1 r.counts r.counts_is station.after in
     let analogue = channels_good analogue_line IsGoodAnalogue analogue_good 1 r.counts.0.analogue r.counts.1
-        r.analogue r.analogue_is counts.after in
+    r.analogue r.analogue_is counts.after in
     let status = channels_good status_line IsGoodStatus status_good 1 r.counts.0.status r.analogue.1 r.status
-        r.status_is analogue.1 in
+    r.status_is analogue.1 in
     let lf = fields_read frequency_line r.status.1 r.lf r.lf_is status.1 in
     let rates = fields_read rates_line r.lf.1 r.rates r.rates_is lf.after in
     let sampling = fields_read (sampling_line r.lf.0) r.rates.1 r.sampling r.sampling_is rates.after in

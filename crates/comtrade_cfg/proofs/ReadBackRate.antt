@@ -22,7 +22,7 @@ use Rattle.pq_base.proofs.DecimalLemmas.{decimal_without}
 use Rattle.pq_base.proofs.DigitsLemmas.{digits_joined}
 use Rattle.pq_time.specs.Written.{code_of}
 use Rattle.comtrade_cfg.specs.Canonical.{rate_text, hexadecimal_text, offset_text, code_text}
-use Rattle.comtrade_cfg.specs.CanonicalParts.{local_code_text}
+use Rattle.comtrade_cfg.specs.Canonical.{local_code_text}
 use Rattle.cfg_fields.specs.Fields.{hexadecimal, leap_digit, local_code_of}
 use Rattle.cfg_fields.proofs.FieldTexts.{split_free, split_at}
 use Rattle.cfg_fields.proofs.ReadBackNumbers.{digits_back, decimal_digits, decimal_within, padded_digits, padded_after, digits_free, is_plain, IsPlain, plain_joined, plain_decimal, plain_padded}
@@ -36,7 +36,7 @@ signed_digits text b =
     let plus : (b.first == 43) ≡ false = apart b.first 43 refl b.digit in
     ap signed_text b.is
     ∙ ap (λ c. cond {A = Bool × Text} c (true, b.rest)
-        (cond (b.first == 43) (false, b.rest) (false, b.first ∷ b.rest))) minus
+    (cond (b.first == 43) (false, b.rest) (false, b.first ∷ b.rest))) minus
     ∙ ap (λ c. cond {A = Bool × Text} c (false, b.rest) (false, b.first ∷ b.rest)) plus
     ∙ ap (λ t. (false, t)) (sym b.is)
   where
@@ -58,7 +58,7 @@ mantissa : (text : Text) → BeginsWithDigit text → list_any is_exponent_mark 
 mantissa text b none =
     let s = signed_digits text b in
     decimal_without text text text false (sym (ap (λ (p : Bool × Text). p.0) s))
-        (sym (ap (λ (p : Bool × Text). p.1) s)) (split_free is_exponent_mark text none)
+    (sym (ap (λ (p : Bool × Text). p.1) s)) (split_free is_exponent_mark text none)
 
 -- ---- the rate
 
@@ -73,14 +73,14 @@ whole_rate w rate small same =
     let fits : w < 2 ^ 64 = omega (arith, small) in
     let digits = decimal_digits w fits in
     let joined : digits_between 1 32 (decimal w ++ []) ≡ Some w =
-        ap (digits_between 1 32) (append-nil (decimal w))
-        ∙ decimal_within 32 w (omega arith) (omega (arith, small)) fits in
+    ap (digits_between 1 32) (append-nil (decimal w))
+    ∙ decimal_within 32 w (omega arith) (omega (arith, small)) fits in
     record {
       value = record { negative = false; digits = w; exponent = pos 0 -ℤ pos 0 };
       is = mantissa (decimal w) (subst BeginsWithDigit (append-nil (decimal w)) (decimal_begins w [] fits))
           (no_marks (decimal w) digits)
           ∙ ap (λ parts. mantissa_of false parts (pos 0))
-              (split_free (λ b. b == 46) (decimal w) (digits_free 46 (decimal w) refl digits))
+          (split_free (λ b. b == 46) (decimal w) (digits_free 46 (decimal w) refl digits))
           ∙ ap (option_map (λ n. record { negative = false; digits = n; exponent = pos 0 -ℤ pos 0 })) joined;
       rounded = ap pos same;
     }
@@ -91,28 +91,28 @@ fraction_rate w rest rate small few same =
     let fits : w < 2 ^ 64 = omega (arith, small) in
     let whole = decimal_digits w fits in
     let size : length (decimal w ++ padded 6 rest) ≡ length (decimal w) + 6 =
-        length-append (decimal w) (padded 6 rest) in
+    length-append (decimal w) (padded 6 rest) in
     let length_few : length (decimal w) ≤ 9 = length-decimal-le 9 w (omega arith) small fits in
     let value : digits_value 10 (decimal w ++ padded 6 rest) ≡ rate =
     digits_joined 0 (decimal w) (padded 6 rest) ∙ ap (λ n. digits_value_after 10 n (padded 6 rest))
-        (decimal_is_IsNumeral w fits).1 ∙ padded_after 6 w rest few ∙ same in
+    (decimal_is_IsNumeral w fits).1 ∙ padded_after 6 w rest few ∙ same in
     let joined : digits_between 1 32 (decimal w ++ padded 6 rest) ≡ Some rate =
     digits_back 1 32 (decimal w ++ padded 6 rest) rate (omega (arith, size)) (omega (arith, size, length_few))
     (list_all-append is_ascii_digit (decimal w) (padded 6 rest)
-        ∙ and_from (list_all is_ascii_digit (decimal w)) (list_all is_ascii_digit (padded 6 rest)) whole
-        (padded_digits 6 rest)) value in
+    ∙ and_from (list_all is_ascii_digit (decimal w)) (list_all is_ascii_digit (padded 6 rest)) whole
+    (padded_digits 6 rest)) value in
     let one : rate * 1 ≡ rate = omega arith in
     record {
       value = record { negative = false; digits = rate; exponent = pos 0 -ℤ pos 6 };
       is = mantissa (decimal w ++ 46 ∷ padded 6 rest) (decimal_begins w (46 ∷ padded 6 rest) fits)
           (list_any-append is_exponent_mark (decimal w) (46 ∷ padded 6 rest)
-              ∙ ap (λ b. b || list_any is_exponent_mark (padded 6 rest)) (no_marks (decimal w) whole)
-              ∙ no_marks (padded 6 rest) (padded_digits 6 rest))
+          ∙ ap (λ b. b || list_any is_exponent_mark (padded 6 rest)) (no_marks (decimal w) whole)
+          ∙ no_marks (padded 6 rest) (padded_digits 6 rest))
           ∙ ap (λ parts. mantissa_of false parts (pos 0))
-              (split_at (λ b. b == 46) (decimal w) 46 (padded 6 rest) (digits_free 46 (decimal w) refl whole)
-              refl
+          (split_at (λ b. b == 46) (decimal w) 46 (padded 6 rest) (digits_free 46 (decimal w) refl whole)
+          refl
           ∙ ap (λ z. decimal w ∷ z) (split_free (λ b. b == 46) (padded 6 rest)
-              (digits_free 46 (padded 6 rest) refl (padded_digits 6 rest))))
+          (digits_free 46 (padded 6 rest) refl (padded_digits 6 rest))))
           ∙ ap (option_map (λ n. record { negative = false; digits = n; exponent = pos 0 -ℤ pos 6 })) joined;
       rounded = ap pos one;
     }
@@ -126,7 +126,7 @@ rate_back rate few = at (rate % 10 ^ 6 == 0) refl
     at true is =
         let none : rate % 10 ^ 6 ≡ 0 = eqb-true (rate % 10 ^ 6) 0 is in
         subst (λ t. IsRate t rate) (sym (append-nil (decimal (rate / 10 ^ 6))))
-            (whole_rate (rate / 10 ^ 6) rate (omega (arith, few)) (omega (arith, none)))
+        (whole_rate (rate / 10 ^ 6) rate (omega (arith, few)) (omega (arith, none)))
     at false is = fraction_rate (rate / 10 ^ 6) (rate % 10 ^ 6) rate (omega (arith, few)) (omega arith)
         (omega arith)
 
@@ -188,7 +188,7 @@ not_x c rest h = ap (λ b. b && pointwise nat_eq (map to_ascii_lowercase rest) [
 code_not_x : (z : ℤ) → IsWithin 899 z → str_eq_ignore_ascii_case (code_text z) (codes "x") ≡ false
 code_not_x (pos m) h =
     let b = decimal_begins (m / 60) (cond (m % 60 == 0) [] (104 ∷ padded 2 (m % 60)))
-        (omega (arith, signed_arith, h)) in
+    (omega (arith, signed_arith, h)) in
     ap (λ t. str_eq_ignore_ascii_case t (codes "x")) b.is ∙ not_x b.first b.rest b.digit
 code_not_x (negsuc n) h = refl
 
@@ -197,7 +197,7 @@ pub local_back : (code : Option ℤ) → ForSome code (IsWithin 899) → local_c
 local_back None h = refl
 local_back (Some z) h =
     ap (λ b. cond b (Some None) (option_map (λ (z : ℤ). Some z) (code_of (code_text z))))
-        (code_not_x z (h z refl))
+    (code_not_x z (h z refl))
     ∙ ap (option_map (λ (z : ℤ). Some z)) (code_back z (h z refl))
 
 plain_offset : (m : ℕ) → m ≤ 899 → IsPlain (offset_text m)

@@ -5,7 +5,7 @@ use Rattle.std.specs.Str.Lines.{lines, lines_of_parts}
 use Rattle.pq_words.specs.Text.{Text, trimmed, parted_at}
 use Rattle.cfg_fields.specs.Fields.{fields_of}
 use Rattle.comtrade_cfg.specs.Canonical.{row_of}
-use Rattle.comtrade_cfg.specs.CanonicalParts.{lines_text}
+use Rattle.comtrade_cfg.specs.Canonical.{lines_text}
 use Rattle.cfg_fields.proofs.FieldTexts.{IsFree, free_joined, split_free, split_at, lines_parts, IsField, all_trim}
 
 -- the parts between line feeds are the lines with their carriage returns, and nothing
@@ -15,7 +15,7 @@ line_parts [] h = refl
 line_parts (line ∷ ls) h =
     let free : list_any (λ b. b == 10) (line ++ 13 ∷ []) ≡ false = free_joined 10 line (13 ∷ []) h.0 refl in
     ap (slice_split (λ b. b == 10)) (append_assoc line (13 ∷ 10 ∷ []) (lines_text ls)
-        ∙ sym (append_assoc line (13 ∷ []) (10 ∷ lines_text ls)))
+    ∙ sym (append_assoc line (13 ∷ []) (10 ∷ lines_text ls)))
     ∙ split_at (λ b. b == 10) (line ++ 13 ∷ []) 10 (lines_text ls) free refl
     ∙ ap (λ parts. (line ++ 13 ∷ []) ∷ parts) (line_parts ls h.1)
 

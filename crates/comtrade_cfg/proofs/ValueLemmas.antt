@@ -8,7 +8,7 @@ use Rattle.std.proofs.lemmas.List.Sums.{length-filter, count_by-le-length}
 use Rattle.std.proofs.lemmas.List.FromFn.{length-range_with_len}
 use Rattle.pq_base.specs.Decimal.{with_sign}
 use Rattle.comtrade_cfg.specs.declared.cfg.Analogue.{Analogue}
-use Rattle.comtrade_cfg.specs.declared.selection.SelectFault.TheVariants as fault
+use Rattle.comtrade_cfg.specs.declared.select_fault.SelectFault.TheVariants as fault
 use Rattle.comtrade_cfg.specs.Selecting.{values_within_limit, positions_of, is_among, is_within_value_limit}
 
 -- the sign takes nothing from the magnitude
@@ -24,7 +24,7 @@ chosen_from channels chosen i = filter (λ p. is_among chosen (p + 1)) (range_wi
 judge_more : (among within : Bool) (channels : List Analogue) (i : ℕ) (more : List ℕ) →
     option_map_or is_within_value_limit (slice_get channels i) true ≡ within
     → (among && not within) ≡ false → values_within_limit channels (if among then i ∷ more else more)
-        ≡ values_within_limit channels more
+    ≡ values_within_limit channels more
 judge_more true true channels i more is e = rw is refl
 judge_more true false channels i more is e = absurd cc
 judge_more false within channels i more is e = refl
@@ -32,7 +32,7 @@ judge_more false within channels i more is e = refl
 judge_stop : (among within : Bool) (channels : List Analogue) (i : ℕ) (more : List ℕ) →
     option_map_or is_within_value_limit (slice_get channels i) true ≡ within
     → (among && not within) ≡ true → values_within_limit channels (if among then i ∷ more else more)
-        ≡ Err (fault.Value (i + 3))
+    ≡ Err (fault.Value (i + 3))
 judge_stop true true channels i more is e = absurd cc
 judge_stop true false channels i more is e = rw is refl
 judge_stop false within channels i more is e = absurd cc
@@ -45,12 +45,12 @@ got channels i ch is = ap (λ o. option_map_or is_within_value_limit o true) is
 pub judged_more : (channels : List Analogue) (chosen : List ℕ) (i : ℕ) (ch : Analogue) → i < length channels →
     ch ≡ get_or channels i ch → (is_among chosen (i + 1) && not (is_within_value_limit ch)) ≡ false
     → values_within_limit channels (chosen_from channels chosen i)
-        ≡ values_within_limit channels (chosen_from channels chosen (i + 1))
+    ≡ values_within_limit channels (chosen_from channels chosen (i + 1))
 judged_more channels chosen i ch inside is e =
     let k : length channels - i ≡ suc (length channels - (i + 1)) = omega arith in
     rw k (judge_more (is_among chosen (i + 1)) (is_within_value_limit ch) channels i
-        (chosen_from channels chosen (i + 1)) (got channels i ch
-        (slice_get_read channels (length channels) i ch refl inside is)) e)
+    (chosen_from channels chosen (i + 1)) (got channels i ch
+    (slice_get_read channels (length channels) i ch refl inside is)) e)
 
 -- a channel past the limit
 pub judged_stop : (channels : List Analogue) (chosen : List ℕ) (i : ℕ) (ch : Analogue) → i < length channels →
@@ -59,8 +59,8 @@ pub judged_stop : (channels : List Analogue) (chosen : List ℕ) (i : ℕ) (ch :
 judged_stop channels chosen i ch inside is e =
     let k : length channels - i ≡ suc (length channels - (i + 1)) = omega arith in
     rw k (judge_stop (is_among chosen (i + 1)) (is_within_value_limit ch) channels i
-        (chosen_from channels chosen (i + 1)) (got channels i ch
-        (slice_get_read channels (length channels) i ch refl inside is)) e)
+    (chosen_from channels chosen (i + 1)) (got channels i ch
+    (slice_get_read channels (length channels) i ch refl inside is)) e)
 
 -- no more positions than channels
 pub few_chosen : (channels : List Analogue) (chosen : List ℕ) →

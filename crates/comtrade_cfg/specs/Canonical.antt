@@ -1,11 +1,14 @@
 -- The canonical text of a configuration, which reads back to it (profile).
-use Rattle.std.specs.Prelude.{ℕ, ◌+◌, ◌/◌, ◌%◌, ◌^◌, ◌≤◌, ◌==◌, if◌then◌else◌, List, [], ◌∷◌, ◌++◌, length, map, ℤ, pos, negsuc, Option, Some, None, decimal, codes}
+use Rattle.std.specs.Global.{Vec}
+use Rattle.std.specs.declared.alloc.AllocError.{AllocError}
+use Rattle.std.specs.Prelude.{◌≡◌, ℕ, ◌+◌, ◌/◌, ◌%◌, ◌^◌, ◌≤◌, ◌==◌, if◌then◌else◌, List, [], ◌∷◌, ◌++◌, length, map, ℤ, pos, negsuc, Option, Some, None, Result, OnOk, decimal, codes}
 use Rattle.std.specs.Option.{option_map_or}
 use Rattle.std.specs.List.{flat_map}
 use Rattle.pq_words.specs.Text.{Text, joined_by, padded}
 use Rattle.pq_time.specs.Written.{CivilDate, TimeOfDay}
 use Rattle.pq_time.specs.Moment.{written_of}
 use Rattle.pq_time.specs.Printed.{date_shown, time_shown, hms_text}
+use Rattle.comtrade_cfg.specs.declared.limits.TheConstants.{MOST_CFG_BYTES}
 use Rattle.comtrade_cfg.specs.declared.cfg.Analogue.{Analogue}
 use Rattle.comtrade_cfg.specs.declared.cfg.StatusLine.{StatusLine}
 use Rattle.comtrade_cfg.specs.declared.cfg.Zone.{Zone}
@@ -72,36 +75,94 @@ numbered_rows position [] = []
 numbered_rows position (fields ∷ more) = row_of (decimal position ∷ fields) ∷ numbered_rows (position + 1)
     more
 
--- the two lines that revision 2013 has behind timemult
+-- a time code, or `x` where there is none
+abbrev pub local_code_text : Option ℤ → Text
+local_code_text code = option_map_or code_text code (codes "x")
+
+-- ---- the lines, in their order
+
+-- the station line
+abbrev pub station_row : Configuration → Text
+station_row c = row_of (c.station ∷ c.device ∷ decimal c.revision ∷ [])
+
+-- the numbers of channels line, for so many of each kind
+abbrev pub counts_row : ℕ → ℕ → Text
+counts_row analogue status = row_of (
+    decimal (analogue + status) ∷ (decimal analogue ++ 65 ∷ []) ∷ (decimal status ++ 68 ∷ []) ∷ []
+    )
+
+-- the analogue channel lines
+abbrev pub analogue_rows : List Analogue → List Text
+analogue_rows channels = numbered_rows 1 (map analogue_fields channels)
+
+-- the status channel lines
+abbrev pub status_rows : List StatusLine → List Text
+status_rows channels = numbered_rows 1 (map status_fields channels)
+
+-- the line frequency line, the number of sampling rates line and the sampling rate line
+abbrev pub sampling_rows : Configuration → List Text
+sampling_rows c = decimal c.lf ∷ decimal 1 ∷ row_of (rate_text c.rate ∷ decimal c.endsamp ∷ []) ∷ []
+
+-- the date/time stamp line of a moment in UTC, as it is written in a zone
+abbrev pub stamp_row : Option Zone → ℤ → Text
+stamp_row zone utc = stamp_text (written_of utc (offset_of zone))
+
+-- the two date/time stamp lines
+abbrev pub stamp_rows : Configuration → List Text
+stamp_rows c = stamp_row c.zone c.first ∷ stamp_row c.zone c.trigger ∷ []
+
+-- the data file type line and the time stamp multiplication factor line
+abbrev pub form_rows : Configuration → List Text
+form_rows c = file_type_text c.file_type ∷ c.timemult ∷ []
+
+-- the two lines that revision 2013 has behind them
 abbrev pub zone_rows : Option Zone → List Text
 zone_rows None = []
 zone_rows (Some z) =
-    row_of (code_text z.time_code ∷ option_map_or code_text z.local_code (codes "x") ∷ [])
+    row_of (code_text z.time_code ∷ local_code_text z.local_code ∷ [])
     ∷ row_of (hexadecimal_text z.quality ∷ decimal z.leap ∷ []) ∷ []
+
+-- the lines behind those of the channels
+abbrev pub behind_rows : Configuration → List Text
+behind_rows c = sampling_rows c ++ (stamp_rows c ++ (form_rows c ++ zone_rows c.zone))
 
 -- the lines of the canonical text
 abbrev pub canonical_lines : Configuration → List Text
 canonical_lines c =
-    row_of (c.station ∷ c.device ∷ decimal c.revision ∷ [])
-    ∷ row_of (decimal (length c.analogue + length c.status) ∷ (decimal (length c.analogue) ++ 65 ∷ []) ∷
-        (decimal (length c.status) ++ 68 ∷ []) ∷ [])
-    ∷ numbered_rows 1 (map analogue_fields c.analogue)
-    ++ numbered_rows 1 (map status_fields c.status)
-    ++ decimal c.lf
-    ∷ decimal 1
-    ∷ row_of (rate_text c.rate ∷ decimal c.endsamp ∷ [])
-    ∷ stamp_text (written_of c.first (offset_of c.zone))
-    ∷ stamp_text (written_of c.trigger (offset_of c.zone))
-    ∷ file_type_text c.file_type
-    ∷ c.timemult
-    ∷ zone_rows c.zone
+    station_row c
+    ∷ counts_row (length c.analogue) (length c.status)
+    ∷ (analogue_rows c.analogue ++ (status_rows c.status ++ behind_rows c))
 
--- each line ended by CR LF
+-- a line with its end, CR LF
+abbrev pub ended : Text → Text
+ended line = line ++ 13 ∷ 10 ∷ []
+
+-- lines with their ends
+abbrev pub lines_text : List Text → Text
+lines_text lines = flat_map ended lines
+
+-- the canonical text
 unfoldable pub canonical_text : Configuration → Text
-canonical_text c = flat_map (λ line. line ++ 13 ∷ 10 ∷ []) (canonical_lines c)
+canonical_text c = lines_text (canonical_lines c)
 
--- the law of printing: what a configuration is printed as says that configuration, within the limit of a
--- cfg's bytes
+-- a text says this configuration, if it is within the limit of a cfg's bytes
+abbrev pub SaysAgain : Configuration → Text → Type 0
+SaysAgain c text = length text ≤ MOST_CFG_BYTES → IsCfgOf text c
+
+-- the law of printing: what a configuration is printed as says that configuration
 abbrev pub ReadsBack : Type 0
-ReadsBack = (c : Configuration) → IsConfiguration c → length (canonical_text c) ≤ 1048576 →
-    IsCfgOf (canonical_text c) c
+ReadsBack = (c : Configuration) → IsConfiguration c → SaysAgain c (canonical_text c)
+
+-- ---- printing
+
+-- a text before, and after something was appended to it, or there was no memory
+abbrev pub Appends : Vec ℕ → Vec ℕ → Result (Unit {0}) AllocError → Text → Type 0
+Appends before after result added = OnOk result (after.items ≡ before.items ++ added)
+
+-- the line of a channel, with its position
+abbrev pub numbered_text : ℕ → List Text → Text
+numbered_text position fields = ended (row_of (decimal position ∷ fields))
+
+-- fields behind a comma each
+abbrev pub behind_commas : List Text → Text
+behind_commas fields = flat_map (λ field. 44 ∷ field) fields

@@ -1,27 +1,31 @@
 -- A cfg as a text: its lines in order, the first fault, and the configuration that a good text says (C37.111,
 -- configuration file).
-use Rattle.std.specs.Prelude.{◌≡◌, ℕ, zero, suc, ◌+◌, Bool, true, false, ◌||◌, ◌==◌, nat_le, if◌then◌else◌, List, [], ◌∷◌, length, ℤ, pos, Option, Some, None, Result, Ok, Err, codes}
-use Rattle.std.specs.Option.{option_map_or}
+use Rattle.std.specs.Prelude.{◌≡◌, ◌≤◌, ℕ, zero, suc, ◌+◌, Bool, true, false, ◌||◌, ◌==◌, nat_le, if◌then◌else◌, List, [], ◌∷◌, length, ℤ, pos, Option, Some, None, Result, Ok, Err, codes}
+use Rattle.std.specs.Option.{ForSome, option_map_or}
 use Rattle.std.specs.Str.{str_eq_ignore_ascii_case}
 use Rattle.std.specs.List.{list_any}
+use Rattle.pq_words.specs.Magnitude.{IsWithin}
 use Rattle.pq_words.specs.Text.{Text}
 use Rattle.pq_words.specs.FirstFault.{◌>>=◌, provided, GivesUnless}
 use Rattle.pq_time.specs.Written.{code_of}
 use Rattle.pq_time.specs.Moment.{written_moment, utc_of}
+use Rattle.cfg_fields.specs.declared.limits.TheConstants.{MOST_CHANNELS}
+use Rattle.comtrade_cfg.specs.declared.limits.TheConstants.{MOST_CFG_BYTES}
 use Rattle.comtrade_cfg.specs.declared.cfg.Analogue.{Analogue}
 use Rattle.comtrade_cfg.specs.declared.cfg.StatusLine.{StatusLine}
 use Rattle.comtrade_cfg.specs.declared.cfg.Zone.{Zone}
 use Rattle.comtrade_cfg.specs.declared.cfg.FileType.{FileType}
 use Rattle.comtrade_cfg.specs.declared.cfg.FileType.TheVariants.{Binary}
 use Rattle.comtrade_cfg.specs.declared.cfg.Cfg.{Cfg}
-use Rattle.comtrade_cfg.specs.declared.head.Station.{Station}
-use Rattle.comtrade_cfg.specs.declared.head.ChannelCounts.{ChannelCounts}
-use Rattle.comtrade_cfg.specs.declared.sampling.Sampling.{Sampling}
+use Rattle.comtrade_cfg.specs.declared.channel_lines.AnalogueFields.{AnalogueFields}
+use Rattle.comtrade_cfg.specs.declared.head_lines.Station.{Station}
+use Rattle.comtrade_cfg.specs.declared.head_lines.ChannelCounts.{ChannelCounts}
+use Rattle.comtrade_cfg.specs.declared.sampling_lines.Sampling.{Sampling}
 use Rattle.cfg_fields.specs.declared.fault.CfgFault.{CfgFault}
 use Rattle.cfg_fields.specs.declared.fault.CfgFault.TheVariants as fault
 use Rattle.cfg_fields.specs.declared.fault.Quantity.TheVariants as quantity
 use Rattle.cfg_fields.specs.declared.fault.Unsupported.TheVariants as unsupported
-use Rattle.comtrade_cfg.specs.Configuration.{Configuration, view}
+use Rattle.comtrade_cfg.specs.Configuration.{Configuration, cfg_view}
 use Rattle.cfg_fields.specs.Fields.{Ahead, ahead_of, Reading, on_line, only_blank_lines, field_or_fault, text_field, number_field, position_field, decimal_text, channel_count, frequency_field, rate_field, samples_field, moment_fields, hexadecimal, leap_field, local_code_of}
 
 -- the three fields of a station line: station, device, revision
@@ -66,8 +70,27 @@ analogue_fields position line an id phase component unit a b skew min max primar
   primary ← text_field line 11 primary
   secondary ← text_field line 12 secondary
   side ← text_field line 13 ps
-  Ok (record { id = id; phase = phase; component = component; unit = unit; a = a; b = b; skew = skew; least =
-      least; greatest = greatest; primary = primary; secondary = secondary; side = side })
+  Ok (record {
+    id = id;
+    phase = phase;
+    component = component;
+    unit = unit;
+    a = a;
+    b = b;
+    skew = skew;
+    least =
+        least;
+    greatest = greatest;
+    primary = primary;
+    secondary = secondary;
+    side = side;
+  })
+
+-- the same of the fields as they are handed on
+abbrev pub fields_of_analogue : ℕ → ℕ → AnalogueFields → Result Analogue CfgFault
+fields_of_analogue position line f =
+    analogue_fields position line f.an.now f.id.now f.phase.now f.component.now f.unit.now f.a.now f.b.now
+    f.skew.now f.min.now f.max.now f.primary.now f.secondary.now f.ps.now
 
 -- an analogue channel line
 abbrev pub analogue_line : ℕ → ℕ → List Text → Result Analogue CfgFault
@@ -92,6 +115,10 @@ status_line position line (dn ∷ id ∷ phase ∷ component ∷ normal ∷ []) 
     status_fields position line dn id phase component normal
 status_line position line _ = Err (fault.Line line)
 
+-- at most so many channels of each kind
+abbrev pub AreFew : ChannelCounts → Type 0
+AreFew n = (n.analogue ≤ MOST_CHANNELS) × (n.status ≤ MOST_CHANNELS)
+
 -- the lines of n channels, the first of them at this position
 unfoldable pub channel_lines : {A : Type 0} → (ℕ → ℕ → List Text → Result A CfgFault) → ℕ → ℕ → Ahead →
     Reading (List A)
@@ -100,6 +127,14 @@ channel_lines rule position (suc n) ahead = do
   first ← on_line (rule position) ahead
   others ← channel_lines rule (position + 1) n first.1
   Ok (first.0 ∷ others.0, others.1)
+
+-- all analogue channel lines, so many
+abbrev pub analogue_lines : ℕ → Ahead → Reading (List Analogue)
+analogue_lines count = channel_lines analogue_line 1 count
+
+-- all status channel lines, so many
+abbrev pub status_lines : ℕ → Ahead → Reading (List StatusLine)
+status_lines count = channel_lines status_line 1 count
 
 -- the line frequency line: lf
 abbrev pub frequency_line : ℕ → List Text → Result ℕ CfgFault
@@ -136,7 +171,7 @@ abbrev pub file_type_line : ℕ → List Text → Result FileType CfgFault
 file_type_line line (ft ∷ []) =
     if str_eq_ignore_ascii_case ft (codes "BINARY") then Ok Binary
     else (if is_other_file_type ft then Err (fault.Unsupported unsupported.FileType line) else Err
-        (fault.Field line 1))
+    (fault.Field line 1))
 file_type_line line _ = Err (fault.Line line)
 
 -- the time stamp multiplication factor line: timemult, which keeps its spelling
@@ -166,37 +201,46 @@ zone_lines is_2013 ahead = elim is_2013 [
   | true ↦ (do
     codes ← on_line time_code_line ahead
     quality ← on_line time_quality_line codes.1
-    Ok (Some (record { time_code = codes.0.0; local_code = codes.0.1; quality = quality.0.0; leap =
-        quality.0.1 }), quality.1))
+    Ok (
+      Some (record {
+        time_code = codes.0.0;
+        local_code = codes.0.1;
+        quality = quality.0.0;
+        leap =
+            quality.0.1;
+      }),
+      quality.1,
+    ))
   | false ↦ Ok (None, ahead)
 ]
+
+-- the time code, if there is one, is less than 15 hours to either side
+abbrev pub HasOffset : Option Zone → Type 0
+HasOffset zone = ForSome zone (λ z. IsWithin 899 z.time_code)
 
 -- the offset of the written moments from UTC, in minutes: a file of 1999 is taken as UTC
 abbrev pub offset_of : Option Zone → ℤ
 offset_of zone = option_map_or (λ z. z.time_code) zone (pos 0)
 
--- all lines in order
-unfoldable pub configuration_ahead : Ahead → Result Configuration CfgFault
-configuration_ahead ahead = do
-  station ← on_line station_line ahead
-  counts ← on_line counts_line station.1
-  analogue ← channel_lines analogue_line 1 counts.0.analogue counts.1
-  status ← channel_lines status_line 1 counts.0.status analogue.1
-  lf ← on_line frequency_line status.1
+-- the lines behind the channels, in order, after what the lines before them say
+unfoldable pub lines_behind : Station → List Analogue → List StatusLine → Ahead →
+    Result Configuration CfgFault
+lines_behind station analogue status ahead = do
+  lf ← on_line frequency_line ahead
   rates ← on_line rates_line lf.1
   sampling ← on_line (sampling_line lf.0) rates.1
   first ← on_line stamp_line sampling.1
   trigger ← on_line stamp_line first.1
   file_type ← on_line file_type_line trigger.1
   timemult ← on_line timemult_line file_type.1
-  zone ← zone_lines (station.0.revision == 2013) timemult.1
+  zone ← zone_lines (station.revision == 2013) timemult.1
   ended ← only_blank_lines zone.1.number zone.1.lines
   Ok (record {
-    station = station.0.station;
-    device = station.0.device;
-    revision = station.0.revision;
-    analogue = analogue.0;
-    status = status.0;
+    station = station.station;
+    device = station.device;
+    revision = station.revision;
+    analogue = analogue;
+    status = status;
     lf = lf.0;
     rate = sampling.0.rate;
     endsamp = sampling.0.endsamp;
@@ -207,11 +251,20 @@ configuration_ahead ahead = do
     zone = zone.0;
   })
 
+-- all lines in order
+unfoldable pub configuration_ahead : Ahead → Result Configuration CfgFault
+configuration_ahead ahead = do
+  station ← on_line station_line ahead
+  counts ← on_line counts_line station.1
+  analogue ← analogue_lines counts.0.analogue counts.1
+  status ← status_lines counts.0.status analogue.1
+  lines_behind station.0 analogue.0 status.0 status.1
+
 -- the configuration that a text says, or its first fault
 unfoldable pub configuration_of : Text → Result Configuration CfgFault
 configuration_of text =
-    if nat_le (length text) 1048576 then configuration_ahead (ahead_of text) else Err
-        (fault.Limit quantity.CfgBytes 0)
+    if nat_le (length text) MOST_CFG_BYTES then configuration_ahead (ahead_of text)
+    else Err (fault.Limit quantity.CfgBytes 0)
 
 -- the text is a cfg, and says this
 abbrev pub IsCfgOf : Text → Configuration → Type 0
@@ -222,5 +275,5 @@ abbrev pub IsConfiguration : Configuration → Type 0
 IsConfiguration c = (text : Text) × IsCfgOf text c
 
 -- what `read_cfg` may answer: the configuration, the first fault, or want of memory
-abbrev pub GivesCfg : Result Cfg CfgFault → Text → Type 0
-GivesCfg result text = GivesUnless fault.OutOfMemory view result (configuration_of text)
+abbrev pub GivesCfg : Result Cfg CfgFault → Result Configuration CfgFault → Type 0
+GivesCfg result read = GivesUnless fault.OutOfMemory cfg_view result read

@@ -25,8 +25,8 @@ pub record Configuration : Type 0 where
   pub zone : Option Zone
 
 -- the configuration that a cfg in memory holds
-abbrev pub view : Cfg → Configuration
-view c = record {
+abbrev pub cfg_view : Cfg → Configuration
+cfg_view c = record {
   station = c.station;
   device = c.device;
   revision = c.revision;

@@ -7,8 +7,11 @@ use Rattle.std.specs.Str.Lines.{lines}
 use Rattle.std.specs.List.{AllByRecursion}
 use Rattle.pq_words.specs.Text.{Text, number, is_all_blank}
 use Rattle.pq_base.specs.Decimal.{decimal_of}
-use Rattle.pq_time.specs.Written.{CivilDate, TimeOfDay, date_of, time_of, code_of}
+use Rattle.pq_time.specs.Written.{CivilDate, TimeOfDay, date_of, clock_time_of as time_of, code_of}
 use Rattle.pq_time.specs.Moment.{moment_at, written_of}
+use Rattle.pq_words.specs.declared.limits.TheConstants.{MOST_SAMPLES}
+use Rattle.cfg_fields.specs.declared.limits.TheConstants.{MOST_CHANNELS}
+use Rattle.comtrade_cfg.specs.declared.limits.TheConstants.{MOST_CFG_BYTES}
 use Rattle.comtrade_cfg.specs.declared.cfg.Analogue.{Analogue}
 use Rattle.comtrade_cfg.specs.declared.cfg.StatusLine.{StatusLine}
 use Rattle.comtrade_cfg.specs.declared.cfg.Zone.{Zone}
@@ -38,7 +41,7 @@ pub record IsCountsLine (fields : List Text) (analogue status : ℕ) : Type 0 wh
   pub na_is : lettered 65 na ≡ Some analogue
   pub nd_is : lettered 68 nd ≡ Some status
   pub total_is : number total ≡ Some (analogue + status)
-  pub few : (analogue ≤ 999) × (status ≤ 999)
+  pub few : (analogue ≤ MOST_CHANNELS) × (status ≤ MOST_CHANNELS)
 
 -- An, id, phase, component, unit, a, b, skew, min, max, primary, secondary, PS
 pub record IsAnalogueLine (position : ℕ) (fields : List Text) (ch : Analogue) : Type 0 where
@@ -79,7 +82,7 @@ pub record IsSamplingLine (fields : List Text) (c : Configuration) : Type 0 wher
   pub samp_is : IsMillionths samp (pos c.rate)
   pub within : IsTrue (is_rate c.lf c.rate)
   pub endsamp_is : number endsamp ≡ Some c.endsamp
-  pub few : c.endsamp ≤ 50000000
+  pub few : c.endsamp ≤ MOST_SAMPLES
 
 -- date and time of a moment, as written
 pub record IsStampLine (fields : List Text) (written : ℤ) : Type 0 where
@@ -152,7 +155,7 @@ pub record LinesSay (text : List Text) (c : Configuration) : Type 0 where
 
 -- the text is a cfg that says this configuration
 pub record IsCfgText (text : Text) (c : Configuration) : Type 0 where
-  pub bytes : length text ≤ 1048576
+  pub bytes : length text ≤ MOST_CFG_BYTES
   pub says : LinesSay (lines text) c
 
 -- the two laws of reading: what is read is in the grammar, and nothing in it is refused

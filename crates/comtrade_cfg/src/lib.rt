@@ -3,24 +3,29 @@
 
 pub use cfg::{Analogue, Cfg, FileType, StatusLine, Zone};
 pub use cfg_fields::{CfgFault, Quantity, Unsupported};
-pub use choosing::select;
+pub use laws::{
+    bounds_configurations, orders_faults, reads_back, reads_the_grammar, selects_good_channels,
+};
+pub use limits::{MOST_CFG_BYTES, MOST_PICOVOLTS};
 pub use print::print_cfg;
-pub use reading::read_cfg;
-pub use selection::{SelectFault, Selection};
+pub use read::read_cfg;
+pub use select_fault::SelectFault;
+pub use selection::{Selection, select};
 pub use voltage::Coefficients;
 
 mod cfg;
-mod channels;
-mod choosing;
-mod head;
+mod channel_lines;
+mod form_lines;
+mod head_lines;
+mod laws;
+mod limits;
 mod print;
 mod print_channels;
 mod print_number;
 mod print_stamp;
-mod reading;
-mod sampling;
+mod read;
+mod sampling_lines;
+mod select_fault;
 mod selection;
-#[cfg(test)]
-mod tests;
+mod time_lines;
 mod voltage;
-mod zone;

@@ -1,15 +1,15 @@
 // The channel lines of a canonical text.
-ghost use Rattle.std.specs.Prelude.{◌≡◌, ◌∷◌, ◌++◌, ◌≤◌, length, map, OnOk, decimal};
-ghost use Rattle.comtrade_cfg.specs.Canonical.{row_of, analogue_fields, status_fields};
-ghost use Rattle.comtrade_cfg.specs.CanonicalParts.{ended, behind_commas, analogue_text, status_text};
+ghost use Rattle.std.specs.Prelude.{◌≡◌, ◌∷◌, ◌++◌, ◌≤◌, length, map, decimal};
+ghost use Rattle.comtrade_cfg.specs.Canonical.{Appends, analogue_fields, analogue_rows, behind_commas, ended, lines_text, numbered_text, status_fields, status_rows};
 
 use crate::cfg::{Analogue, StatusLine};
 use crate::print_number::push_number;
+use cfg_fields::MOST_CHANNELS;
 use std::alloc::AllocError;
 
 // Appends fields, each behind a comma.
 fn push_behind_commas(text: &mut Vec<u8>, fields: &[&[u8]]) -> Result<(), AllocError>
-    ensures { OnOk result (text.new.items ≡ text.old.items ++ behind_commas (map (λ field. field.now) fields.now)) }
+    ensures { Appends text.old text.new result (behind_commas (map (λ field. field.now) fields.now)) }
 {
     for field in fields {
         text.extend_from_slice(b",")?;
@@ -24,7 +24,7 @@ fn push_analogue_line(
     position: u64,
     channel: &Analogue,
 ) -> Result<(), AllocError>
-    ensures { OnOk result (text.new.items ≡ text.old.items ++ ended (row_of (decimal position ∷ analogue_fields channel.now))) }
+    ensures { Appends text.old text.new result (numbered_text position (analogue_fields channel.now)) }
 {
     let fields = [
         channel.id.bytes(),
@@ -52,7 +52,7 @@ fn push_status_line(
     position: u64,
     channel: &StatusLine,
 ) -> Result<(), AllocError>
-    ensures { OnOk result (text.new.items ≡ text.old.items ++ ended (row_of (decimal position ∷ status_fields channel.now))) }
+    ensures { Appends text.old text.new result (numbered_text position (status_fields channel.now)) }
 {
     let fields = [
         channel.id.bytes(),
@@ -68,8 +68,8 @@ fn push_status_line(
 
 /// Appends the analogue channel lines.
 pub(crate) fn push_analogue(text: &mut Vec<u8>, channels: &[Analogue]) -> Result<(), AllocError>
-    requires { length channels.now ≤ 999 }
-    ensures { OnOk result (text.new.items ≡ text.old.items ++ analogue_text channels.now) }
+    requires { length channels.now ≤ MOST_CHANNELS }
+    ensures { Appends text.old text.new result (lines_text (analogue_rows channels.now)) }
 {
     let mut position = 1;
     for channel in channels {
@@ -81,8 +81,8 @@ pub(crate) fn push_analogue(text: &mut Vec<u8>, channels: &[Analogue]) -> Result
 
 /// Appends the status channel lines.
 pub(crate) fn push_status(text: &mut Vec<u8>, channels: &[StatusLine]) -> Result<(), AllocError>
-    requires { length channels.now ≤ 999 }
-    ensures { OnOk result (text.new.items ≡ text.old.items ++ status_text channels.now) }
+    requires { length channels.now ≤ MOST_CHANNELS }
+    ensures { Appends text.old text.new result (lines_text (status_rows channels.now)) }
 {
     let mut position = 1;
     for channel in channels {

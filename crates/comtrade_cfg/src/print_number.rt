@@ -1,7 +1,7 @@
 // Numbers as a cfg writes them, appended to a text.
-ghost use Rattle.std.specs.Prelude.{◌≡◌, ◌++◌, ◌<◌, ◌≤◌, OnOk, decimal};
+ghost use Rattle.std.specs.Prelude.{◌≡◌, ◌++◌, ◌<◌, ◌≤◌, decimal};
 ghost use Rattle.pq_words.specs.Text.{padded};
-ghost use Rattle.comtrade_cfg.specs.Canonical.{rate_text, offset_text, code_text, hexadecimal_text};
+ghost use Rattle.comtrade_cfg.specs.Canonical.{Appends, rate_text, offset_text, code_text, hexadecimal_text};
 
 use itoa::Buffer;
 use std::alloc::AllocError;
@@ -13,7 +13,7 @@ const MINUTES: u32 = 60;
 
 /// Appends a number without leading zeros.
 pub(crate) fn push_number(text: &mut Vec<u8>, number: u64) -> Result<(), AllocError>
-    ensures { OnOk result (text.new.items ≡ text.old.items ++ decimal number) }
+    ensures { Appends text.old text.new result (decimal number) }
 {
     let mut buffer = Buffer::new();
     text.extend_from_slice(buffer.format(number).as_bytes())?;
@@ -39,7 +39,7 @@ fn six_digits(n: u64) -> [u8; 6]
 
 /// Appends a rate in microhertz as hertz.
 pub(crate) fn push_rate(text: &mut Vec<u8>, rate: u64) -> Result<(), AllocError>
-    ensures { OnOk result (text.new.items ≡ text.old.items ++ rate_text rate) }
+    ensures { Appends text.old text.new result (rate_text rate) }
 {
     push_number(text, rate / MICROHERTZ)?;
     let rest = rate % MICROHERTZ;
@@ -52,7 +52,7 @@ pub(crate) fn push_rate(text: &mut Vec<u8>, rate: u64) -> Result<(), AllocError>
 
 // Appends minutes as hours, and minutes where they aren't whole hours.
 fn push_offset(text: &mut Vec<u8>, minutes: u32) -> Result<(), AllocError>
-    ensures { OnOk result (text.new.items ≡ text.old.items ++ offset_text minutes) }
+    ensures { Appends text.old text.new result (offset_text minutes) }
 {
     push_number(text, u64::from(minutes / MINUTES))?;
     let rest = minutes % MINUTES;
@@ -65,7 +65,7 @@ fn push_offset(text: &mut Vec<u8>, minutes: u32) -> Result<(), AllocError>
 
 /// Appends a time code.
 pub(crate) fn push_code(text: &mut Vec<u8>, code: i32) -> Result<(), AllocError>
-    ensures { OnOk result (text.new.items ≡ text.old.items ++ code_text code) }
+    ensures { Appends text.old text.new result (code_text code) }
 {
     if code < 0 {
         text.extend_from_slice(b"-")?;

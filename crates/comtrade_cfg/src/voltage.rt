@@ -1,12 +1,11 @@
 // Channels of voltage, and how great their samples may be.
-ghost use Rattle.std.specs.Prelude.{◌≡◌, ◌≤◌, ◌^◌, ◌+◌, ◌*◌, None, Some, if◌then◌else◌, nat_le, unsigned_abs, IfSome, is_some};
-ghost use Rattle.comtrade_cfg.specs.Selecting.{unit_power, picovolts, coefficients_of, is_within_value_limit, is_voltage_channel};
+ghost use Rattle.std.specs.Prelude.{◌≡◌, ◌↔◌, ◌≤◌, unsigned_abs, IfSome, IsSome, is_some};
+ghost use Rattle.comtrade_cfg.specs.Selecting.{AreWithinLimit, coefficients_of, is_voltage_channel, is_within_value_limit, picovolts, unit_power};
 
 use crate::cfg::Analogue;
+use crate::limits::MOST_PICOVOLTS;
 use cfg_fields::is_word;
 use pq_base::read_decimal;
-
-const MOST_PICOVOLTS: u128 = 10_000_000_000_000_000_000;
 
 // The power of ten of the picovolts in a unit of voltage, V or kV.
 pub(crate) fn unit_power(unit: &[u8]) -> Option<u32>
@@ -33,8 +32,9 @@ pub struct Coefficients {
 #[tactic(auto, using(crate::proofs::ValueLemmas::sign_abs))]
 fn coefficient(power: u32, text: &[u8]) -> Option<i128>
     requires { power ≤ 15 }
-    ensures value { result ≡ (if nat_le (unsigned_abs (picovolts power text.now)) (10 ^ 19) then Some (picovolts power text.now) else None) }
-    ensures within { IfSome result (λ x. unsigned_abs x ≤ 10 ^ 19) }
+    ensures succeeds { IsSome result ↔ (unsigned_abs (picovolts power text.now) ≤ MOST_PICOVOLTS) }
+    ensures value { IfSome result (λ x. x ≡ picovolts power text.now) }
+    ensures within { IfSome result (λ x. unsigned_abs x ≤ MOST_PICOVOLTS) }
 {
     let Some(value) = read_decimal(text) else {
         return Some(0);
@@ -46,8 +46,9 @@ impl Analogue {
     /// The coefficients of a channel in V or kV, each rounded half away from zero to whole picovolts;
     /// None where `32767 * abs(a) + abs(b)` is above 10^19, so that a count may make a sample past the limit.
     pub fn coefficients(&self) -> Option<Coefficients>
-        ensures value { result ≡ (if is_within_value_limit self.now then Some (coefficients_of self.now) else None) }
-        ensures within { IfSome result (λ k. unsigned_abs k.a * 32767 + unsigned_abs k.b ≤ 10 ^ 19) }
+        ensures succeeds { IsSome result ↔ AreWithinLimit (coefficients_of self.now) }
+        ensures value { IfSome result (λ k. k ≡ coefficients_of self.now) }
+        ensures within { IfSome result AreWithinLimit }
     {
         let power = unit_power(self.unit.bytes()).unwrap_or(0);
         let a = coefficient(power, self.a.bytes())?;

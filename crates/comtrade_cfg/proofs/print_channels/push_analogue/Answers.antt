@@ -11,6 +11,6 @@ loop-channel-preserved c =
       lines = line_more analogue_fields c.args.channels.now c.loop-channel.channel-index
           c.loop-channel.position c.channel-item.result c.args.text.now.items c.loop-channel.text.items _
           inside c.channel-item.is c.loop-channel.invariant.next c.loop-channel.invariant.lines
-              c.in_ok-push_analogue_line.ensures;
+          c.in_ok-push_analogue_line.ensures;
       next = omega (arith, c.loop-channel.invariant.next);
     }

@@ -1,5 +1,5 @@
 use Rattle.std.proofs.Common.{◌≡◌, ◌++◌, take, map}
-use Rattle.comtrade_cfg.specs.CanonicalParts.{behind_commas}
+use Rattle.comtrade_cfg.specs.Canonical.{behind_commas}
 use Rattle.comtrade_cfg.proofs.print_channels.push_behind_commas.Given as goal
 
 -- the fields so far

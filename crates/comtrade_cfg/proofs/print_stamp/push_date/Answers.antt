@@ -9,10 +9,10 @@ pub returns : goal.returns
 returns c =
     let fits : FitsSigned w64 c.args.written = c.ranges.written in
     let shown : c.print_moment-shown.result ≡ printed_moment c.args.written =
-        simp to_z-of_z at c.print_moment-shown.ensures in
+    simp to_z-of_z at c.print_moment-shown.ensures in
     date_pieces c.args.text.now.items c.extend_from_slice.new.self.items c.extend_from_slice-2.new.self.items
-        c.extend_from_slice-3.new.self.items c.extend_from_slice-4.new.self.items _
-        c.print_moment-shown.result c.args.written
+    c.extend_from_slice-3.new.self.items c.extend_from_slice-4.new.self.items _
+    c.print_moment-shown.result c.args.written
     shown c.in_ok-extend_from_slice.ensures.items c.in_ok-extend_from_slice-2.ensures.items
-        c.in_ok-extend_from_slice-3.ensures.items c.in_ok-extend_from_slice-4.ensures.items
-        c.in_ok-extend_from_slice-5.ensures.items
+    c.in_ok-extend_from_slice-3.ensures.items c.in_ok-extend_from_slice-4.ensures.items
+    c.in_ok-extend_from_slice-5.ensures.items

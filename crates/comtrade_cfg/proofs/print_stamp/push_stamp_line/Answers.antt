@@ -10,11 +10,11 @@ returns c =
     let utc : FitsSigned w64 c.args.utc = c.ranges.utc in
     let minutes : FitsSigned w32 c.args.minutes = c.ranges.minutes in
     let written : c.written_of.result ≡ written_of c.args.utc c.args.minutes =
-        simp to_z-of_z at c.written_of.ensures in
+    simp to_z-of_z at c.written_of.ensures in
     let fits : FitsSigned w64 (written_of c.args.utc c.args.minutes) = omega (arith, ints, c.requires) in
     let stamp : c.push_stamp.new.text.items ≡ c.args.text.now.items
-        ++ stamp_text (written_of c.args.utc c.args.minutes) =
-        simp (written, to_z-of_z) at c.in_ok-push_stamp.ensures in
+    ++ stamp_text (written_of c.args.utc c.args.minutes) =
+    simp (written, to_z-of_z) at c.in_ok-push_stamp.ensures in
     c.in_ok-extend_from_slice.ensures.items ∙ ap (λ z. z ++ 13 ∷ 10 ∷ []) stamp
-        ∙ append_assoc c.args.text.now.items (stamp_text (written_of c.args.utc c.args.minutes))
-        (13 ∷ 10 ∷ [])
+    ∙ append_assoc c.args.text.now.items (stamp_text (written_of c.args.utc c.args.minutes))
+    (13 ∷ 10 ∷ [])

@@ -9,16 +9,16 @@ pub returns-in_ok-extend_from_slice-2 : goal.returns-in_ok-extend_from_slice-2
 returns-in_ok-extend_from_slice-2 c =
     let fits : FitsSigned w64 c.args.written = c.ranges.written in
     let shown : c.print_moment-shown.result ≡ printed_moment c.args.written =
-        simp to_z-of_z at c.print_moment-shown.ensures in
+    simp to_z-of_z at c.print_moment-shown.ensures in
     time_full c.args.text.now.items c.extend_from_slice.new.self.items _ c.print_moment-shown.result
-        c.args.written shown (sym c.if-not-ends_with.ensures.value) c.in_ok-extend_from_slice.ensures.items
-        c.in_ok-extend_from_slice-2.ensures.items
+    c.args.written shown (sym c.if-not-ends_with.ensures.value) c.in_ok-extend_from_slice.ensures.items
+    c.in_ok-extend_from_slice-2.ensures.items
 
 -- without them
 pub returns-else-not-ends_with : goal.returns-else-not-ends_with
 returns-else-not-ends_with c =
     let fits : FitsSigned w64 c.args.written = c.ranges.written in
     let shown : c.print_moment-shown.result ≡ printed_moment c.args.written =
-        simp to_z-of_z at c.print_moment-shown.ensures in
+    simp to_z-of_z at c.print_moment-shown.ensures in
     time_whole c.args.text.now.items _ c.print_moment-shown.result c.args.written shown
-        (sym c.if-not-ends_with.ensures.value) c.in_ok-extend_from_slice.ensures.items
+    (sym c.if-not-ends_with.ensures.value) c.in_ok-extend_from_slice.ensures.items

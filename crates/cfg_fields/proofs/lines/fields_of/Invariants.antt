@@ -1,9 +1,0 @@
-use Rattle.std.proofs.Common.{◌≡◌, ◌++◌, length, map}
-use Rattle.cfg_fields.specs.Fields.{fields_of}
-use Rattle.cfg_fields.proofs.lines.fields_of.Given as goal
-
-abbrev pub invariant-loop-field : goal.invariant-loop-field
-invariant-loop-field l = map (λ field. field.now) l.fields.items ++ fields_of l.rest ≡ fields_of l.line
-
-abbrev pub decreases-loop-field : goal.decreases-loop-field
-decreases-loop-field l = length l.rest
