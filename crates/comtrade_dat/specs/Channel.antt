@@ -1,0 +1,61 @@
+-- What contracts see of a selected channel that is being read: where its counts lie, and its samples so far.
+use Rattle.std.specs.Prelude.{◌≢◌, ℕ, ◌+◌, ◌*◌, ◌-◌, ◌/◌, ◌^◌, ◌<◌, ◌≤◌, nat_le, List, [], ◌++◌, All, length, map, ℤ, Result}
+use Rattle.std.specs.List.{range_with_len}
+use Rattle.comtrade_cfg.specs.Configuration.{Configuration}
+use Rattle.comtrade_cfg.specs.Selecting.{AreWithinLimit, coefficients_at}
+use Rattle.comtrade_cfg.specs.declared.voltage.Coefficients.{Coefficients}
+use Rattle.comtrade_dat.specs.BinaryRecord.{count_in, record_at}
+use Rattle.comtrade_dat.specs.Samples.{judged_end, sample_at}
+use Rattle.comtrade_dat.specs.declared.dat_fault.DatFault.{DatFault}
+use Rattle.comtrade_dat.specs.declared.dat_fault.DatFault.TheVariants as fault
+use Rattle.comtrade_dat.specs.declared.limits.TheConstants.{MISSING_COUNT}
+use Rattle.pq_words.specs.declared.limits.TheConstants.{MOST_MICROVOLTS}
+use Rattle.pq_words.specs.Magnitude.{IsWithin}
+use Rattle.pq_words.specs.FirstFault.{◌>>=◌, provided}
+use Rattle.pq_words.specs.Text.{Text}
+
+-- the counts of these positions lie in a record of this size, which has one count at least
+pub record IsLayout (size : ℕ) (positions : List ℕ) : Type 0 where
+  pub least : 10 ≤ size
+  pub small : size < 2 ^ 16
+  pub room : All (λ p. 10 + 2 * p ≤ size) positions
+
+-- a channel by its position, and its samples so far
+pub record ChannelRead : Type 0 where
+  pub position : ℕ
+  pub coefficients : Coefficients
+  pub samples : List ℤ
+
+-- the positions and the samples of several channels
+abbrev pub all_positions : List ChannelRead → List ℕ
+all_positions channels = map (λ channel. channel.position) channels
+
+abbrev pub all_samples : List ChannelRead → List (List ℤ)
+all_samples channels = map (λ channel. channel.samples) channels
+
+-- a channel after the records from an index to another, which is not included
+abbrev pub read_on : ℕ → Text → ℕ → ℕ → ChannelRead → ChannelRead
+read_on size dat start end channel = record channel {
+  samples = channel.samples ++ map (sample_at channel.coefficients size channel.position dat)
+      (range_with_len start (end - start));
+}
+
+-- each of the first n records has a count at this position
+abbrev pub HasCounts : ℕ → Text → ℕ → ℕ → Type 0
+HasCounts size dat n position = (index : ℕ) → index < n →
+    count_in (record_at size dat index) position ≢ MISSING_COUNT
+
+-- a channel whose coefficients and samples are within the limits
+pub record IsChannel (c : ChannelRead) : Type 0 where
+  pub limit : AreWithinLimit c.coefficients
+  pub quiet : All (IsWithin MOST_MICROVOLTS) c.samples
+
+-- the channel at a position, before the first record
+abbrev pub unread : Configuration → ℕ → ChannelRead
+unread c position = record { position = position; coefficients = coefficients_at c position; samples = [] }
+
+-- where good records are not all there, the first that is cut off; else the bytes that are left
+abbrev pub judged_rest : ℕ → Text → ℕ → Result (Unit {0}) DatFault
+judged_rest size dat n = do
+  whole ← provided (nat_le n (length dat / size)) (fault.Short (length dat / size + 1)) (tt {0})
+  judged_end size dat n

@@ -1,0 +1,4 @@
+pub mod BinaryRecord
+pub mod Channel
+pub mod ReadBack
+pub mod Samples

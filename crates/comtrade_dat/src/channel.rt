@@ -1,0 +1,98 @@
+// A selected channel that is being read.
+ghost use Rattle.std.specs.Prelude.{◌≡◌, ◌+◌, ◌-◌, ◌*◌, ◌<◌, ◌≤◌, [], ◌++◌, All, IfOk, IsErrOf, OnErr, OnOk, length, map};
+ghost use Rattle.std.specs.List.{range_with_len};
+ghost use Rattle.comtrade_dat.specs.Channel.{HasCounts, read_on};
+ghost use Rattle.comtrade_cfg.specs.Selecting.{AreWithinLimit};
+ghost use Rattle.comtrade_dat.specs.declared.dat_fault.DatFault.TheVariants as fault;
+ghost use Rattle.pq_words.specs.declared.limits.TheConstants.{MOST_MICROVOLTS};
+ghost use Rattle.pq_words.specs.Magnitude.{IsWithin};
+
+use crate::dat_fault::DatFault;
+use crate::fields::{count_in, record_at};
+use crate::sample::microvolts;
+use comtrade_cfg::Coefficients;
+use std::alloc::Global;
+use std::marker::Model;
+
+// Where its counts lie, what they stand for, and its samples so far.
+#[derive(Drop)]
+pub(crate) struct Channel {
+    position: usize,
+    coefficients: Coefficients,
+    samples: Vec<i64>,
+}
+
+impl Model for Channel {
+    ghost use Rattle.comtrade_dat.specs.Channel.{ChannelRead, IsChannel};
+
+    ghost Value = { ChannelRead };
+
+    ghost view = { λ c. record {
+      position = c.position;
+      coefficients = c.coefficients;
+      samples = c.samples.items;
+    } };
+
+    ghost invariant = { λ c. IsChannel (record {
+      position = c.position;
+      coefficients = c.coefficients;
+      samples = c.samples.items;
+    }) };
+}
+
+impl Channel {
+    // With room for the samples of so many records.
+    pub(crate) fn new(
+        alloc: Global,
+        position: usize,
+        coefficients: Coefficients,
+        room: usize,
+    ) -> Result<Channel, DatFault>
+        requires { AreWithinLimit coefficients }
+        ensures value { IfOk result (λ c. c ≡ record {
+          position = position;
+          coefficients = coefficients;
+          samples = [];
+        }) }
+        ensures err { OnErr result (IsErrOf result fault.OutOfMemory) }
+    {
+        Ok(Channel {
+            position,
+            coefficients,
+            samples: Vec::with_capacity(alloc, room)?,
+        })
+    }
+
+    // Takes the samples of the records from an index to another. Apart from its caller its loop has the
+    // registers for itself.
+    #[inline(never)]
+    pub(crate) fn take_records(
+        &mut self,
+        size: usize,
+        dat: &[u8],
+        start: usize,
+        end: usize,
+    ) -> Result<(), DatFault>
+        requires forward { start ≤ end }
+        requires whole { size * end ≤ length dat.now }
+        requires room { 10 + 2 * self.old.position ≤ size }
+        requires counts { HasCounts size dat.now end self.old.position }
+        ensures value { OnOk result (self.new ≡ read_on size dat.now start end self.old) }
+        ensures err { OnErr result (IsErrOf result fault.OutOfMemory) }
+    {
+        let coefficients = self.coefficients;
+        let position = self.position;
+        for index in start..end {
+            let count = count_in(record_at(size, dat, index), position);
+            self.samples.push(microvolts(&coefficients, count))?;
+        }
+        Ok(())
+    }
+
+    pub(crate) fn into_samples(self) -> Vec<i64>
+        ensures value { result.items ≡ self.samples }
+        ensures quiet { All (IsWithin MOST_MICROVOLTS) result.items }
+    {
+        self.samples
+    }
+}
