@@ -1,0 +1,4 @@
+pub mod PolyphaseEvent
+pub mod Latest
+pub mod Poly
+pub mod WholeList

@@ -1,0 +1,90 @@
+// The latest value of each channel, and what they tell of each kind.
+ghost use Rattle.std.specs.Prelude.{◌≡◌, ◌<◌, length};
+ghost use Rattle.polyphase.specs.Latest.{no_values, with_value};
+ghost use Rattle.polyphase.specs.PolyphaseEvent.{IsChannelCount, begins, ends};
+
+use crate::counts::Counts;
+use event_detect::{Kind, Limits, classify};
+use pq_words::MOST_SELECTED;
+use std::marker::Model;
+
+// Room for the most channels.
+const SLOTS: usize = MOST_SELECTED as usize;
+
+// The latest value of each channel, with the thresholds, and counts of how they stand to them. So no step
+// asks each channel.
+#[derive(Drop)]
+pub(crate) struct Latest {
+    limits: Limits,
+    channels: u32,
+    values: [Option<u64>; SLOTS],
+    counts: Counts,
+}
+
+impl Model for Latest {
+    ghost use Rattle.std.specs.Prelude.{take};
+    ghost use Rattle.polyphase.specs.Latest.{LatestView, IsCounted};
+
+    ghost Value = { LatestView };
+
+    ghost view = { λ l. record { limits = l.limits; values = take l.channels l.values } };
+
+    ghost invariant = { λ l. IsCounted l.limits l.channels l.values l.counts };
+}
+
+impl Latest {
+    // No values yet of so many channels.
+    pub(crate) fn new(channels: u32, limits: Limits) -> Latest
+        requires { IsChannelCount channels }
+        ensures { result ≡ no_values channels limits }
+    {
+        Latest {
+            limits,
+            channels,
+            values: [None; SLOTS],
+            counts: Counts::new(),
+        }
+    }
+
+    // Puts the latest value of the channel at a position.
+    pub(crate) fn put(&mut self, position: u32, value: u64)
+        requires { position < length self.old.values }
+        ensures { self.new ≡ with_value self.old position value }
+    {
+        let index = position as usize;
+        if let Some(before) = self.values[index] {
+            self.counts = self.counts.without(classify(&self.limits, before));
+        }
+        self.values[index] = Some(value);
+        self.counts = self.counts.with(classify(&self.limits, value));
+    }
+
+    // Takes all values out.
+    pub(crate) fn clear(&mut self)
+        ensures { self.new ≡ no_values (length self.old.values) self.old.limits }
+    {
+        *self = Latest::new(self.channels, self.limits);
+    }
+
+    // Whether an event of the kind would begin.
+    pub(crate) fn begins(&self, kind: Kind) -> bool
+        ensures { result ≡ begins kind self.now.limits self.now.values }
+    {
+        match kind {
+            Kind::Dip => self.counts.below_dip > 0,
+            Kind::Swell => self.counts.above_swell > 0,
+            Kind::Interruption => self.counts.below_interruption == self.channels,
+        }
+    }
+
+    // Whether an event of the kind would end.
+    pub(crate) fn ends(&self, kind: Kind) -> bool
+        ensures { result ≡ ends kind self.now.limits self.now.values }
+    {
+        match kind {
+            Kind::Dip => self.counts.clear_dip == self.counts.there,
+            Kind::Swell => self.counts.clear_swell == self.counts.there,
+            Kind::Interruption => self.counts.clear_interruption > 0,
+        }
+    }
+}

@@ -1,0 +1,116 @@
+// The machine that finds the events of all kinds over all channels, window by window.
+ghost use Rattle.std.specs.Prelude.{◌≡◌, ◌<◌, [], option_map};
+ghost use Rattle.event_detect.specs.Detector.{Ends as EndsOfKind, SeesMore as SeesMoreOfKind};
+ghost use Rattle.event_detect.specs.Threshold.{IsInOrder};
+ghost use Rattle.polyphase.specs.Poly.{Ends, HasSeen, LeavesOpen, SeesMore, StartsOpen, channel_window, condition_of, running_of};
+ghost use Rattle.polyphase.specs.PolyphaseEvent.{IsChannelCount};
+
+use crate::latest::Latest;
+use event_detect::{Detector, Event, Kind, Limits, Window};
+use std::marker::Model;
+
+/// Finds the dips, swells and interruptions of several channels among the windows that it is fed
+/// (IEC 61000-4-30:2015, 5.4, 5.5).
+#[derive(Drop)]
+pub struct Poly {
+    latest: Latest,
+    dips: Detector,
+    swells: Detector,
+    interruptions: Detector,
+}
+
+impl Model for Poly {
+    ghost use Rattle.polyphase.specs.Poly.{IsPoly, PolyView, poly_view};
+
+    ghost Value = { PolyView };
+
+    ghost view = { λ p. poly_view p.latest p.dips p.swells p.interruptions };
+
+    ghost invariant = { λ p. IsPoly p.latest p.dips p.swells p.interruptions };
+}
+
+impl Poly {
+    /// A machine for so many channels, which has seen nothing.
+    pub fn new(channels: u32, limits: Limits) -> Poly
+        requires channels { IsChannelCount channels }
+        requires limits { IsInOrder limits }
+        ensures value { HasSeen result [] }
+        ensures channels { result.channels ≡ channels }
+        ensures limits { result.limits ≡ limits }
+    {
+        Poly {
+            latest: Latest::new(channels, limits),
+            dips: Detector::new(Kind::Dip),
+            swells: Detector::new(Kind::Swell),
+            interruptions: Detector::new(Kind::Interruption),
+        }
+    }
+
+    /// Feeds the next window of the channel at a position, and gives the events that it ends, in the order
+    /// of `Kind`. The events are those of all windows in the order in which they are fed: the standard's
+    /// where this is the order of the merged windows, by start and then by channel.
+    pub fn step(&mut self, position: u32, window: Window) -> [Option<Event>; 3]
+        requires { position < self.old.channels }
+        ensures value { Ends self.old (channel_window position window) result }
+        ensures seen { SeesMore self.old self.new (channel_window position window) }
+        ensures same { self.new.channels ≡ self.old.channels }
+        ensures limits { self.new.limits ≡ self.old.limits }
+    {
+        self.latest.put(position, window.value);
+        let latest = &self.latest;
+        let dip = step(&mut self.dips, Kind::Dip, latest, position, window);
+        let swell = step(&mut self.swells, Kind::Swell, latest, position, window);
+        let interruption = step(
+            &mut self.interruptions,
+            Kind::Interruption,
+            latest,
+            position,
+            window,
+        );
+        [dip, swell, interruption]
+    }
+
+    /// Ends the list at place `n`, and gives the events that are open there, in the order of `Kind`. The
+    /// machine has then seen nothing.
+    pub fn finish(&mut self, n: u64) -> [Option<Event>; 3]
+        ensures value { LeavesOpen self.old n result }
+        ensures seen { HasSeen self.new [] }
+        ensures same { self.new.channels ≡ self.old.channels }
+        ensures limits { self.new.limits ≡ self.old.limits }
+    {
+        self.latest.clear();
+        [
+            self.dips.finish(n),
+            self.swells.finish(n),
+            self.interruptions.finish(n),
+        ]
+    }
+
+    /// The start of the event of the kind that runs.
+    pub fn running(&self, kind: Kind) -> Option<u64>
+        ensures value { result ≡ option_map (λ r. r.start) (running_of self.now kind) }
+        ensures start { StartsOpen self.now kind result }
+    {
+        match kind {
+            Kind::Dip => self.dips.running(),
+            Kind::Swell => self.swells.running(),
+            Kind::Interruption => self.interruptions.running(),
+        }
+    }
+}
+
+// Feeds the detector of a kind one window, after which these are the latest values.
+fn step(
+    detector: &mut Detector,
+    kind: Kind,
+    latest: &Latest,
+    position: u32,
+    window: Window,
+) -> Option<Event>
+    requires { IsInOrder latest.now.limits }
+    ensures value { EndsOfKind detector.old (condition_of latest.now position window kind) result }
+    ensures seen { SeesMoreOfKind detector.old detector.new (condition_of latest.now position window kind) }
+    ensures same { detector.new.kind ≡ detector.old.kind }
+{
+    detector.step(latest.begins(kind), latest.ends(kind), position, window)
+}
