@@ -45,7 +45,7 @@ pub front_is : (boundaries : List ℕ) (place i : ℕ) → AreParted place bound
 unfolding front_of
 front_is boundaries place i parted =
     first_between_only (reaches boundaries place) 0 (length boundaries)
-        (then_some (nat_lt i (length boundaries)) i) (at (nat_lt i (length boundaries)) refl)
+    (then_some (nat_lt i (length boundaries)) i) (at (nat_lt i (length boundaries)) refl)
   where
     at : (b : Bool) → nat_lt i (length boundaries) ≡ b →
         IsFirst (reaches boundaries place) 0 (length boundaries) (then_some b i)
@@ -68,7 +68,7 @@ unfolding front_of
 front_inside boundaries place k is =
     let first : IsFirst (reaches boundaries place) 0 (length boundaries) (Some k) =
     subst (IsFirst (reaches boundaries place) 0 (length boundaries)) is
-        (first_between_is (reaches boundaries place) 0 (length boundaries)) in
+    (first_between_is (reaches boundaries place) 0 (length boundaries)) in
     first.below
 
 -- ---- what is asked of later places is passed no earlier
@@ -99,9 +99,9 @@ unfolding front_of
 front_rises boundaries p q i j h at_p at_q =
     let n = length boundaries in
     let both = first_earlier (reaches boundaries p) (reaches boundaries q) 0 n
-        (λ k. later_than_both p q (get_or boundaries k 0) h) in
+    (λ k. later_than_both p q (get_or boundaries k 0) h) in
     let first : i ≤ unwrap_or (first_between (reaches boundaries q) 0 n) n =
-        subst (λ o. unwrap_or o n ≤ unwrap_or (first_between (reaches boundaries q) 0 n) n) at_p both in
+    subst (λ o. unwrap_or o n ≤ unwrap_or (first_between (reaches boundaries q) 0 n) n) at_p both in
     subst (λ o. i ≤ unwrap_or o n) at_q first
 
 after_both : (a b c : ℤ) → a ≤ℤ b → int_le b c ≡ true → int_le a c ≡ true
@@ -128,7 +128,7 @@ sorted_from n (x ∷ xs) h zero d from inside = not_below x n h.0
 sorted_from n (x ∷ xs) h (suc k) d from inside =
     let e : suc k + 1 ≡ suc (k + 1) = omega arith in
     subst (λ m. is_lt (nat_cmp (get_or (n ∷ x ∷ xs) m d) (get_or (n ∷ x ∷ xs) (suc k) d)) ≡ false) (sym e)
-        (sorted_from x xs h.1 k d (omega arith) (omega (arith, inside)))
+    (sorted_from x xs h.1 k d (omega arith) (omega (arith, inside)))
 
 -- the places of seconds in equal steps
 steps_rise : (clock : Clock) (n step m p : ℕ) (low : ℤ) → p ≤ tick_place clock n low →
@@ -136,9 +136,11 @@ steps_rise : (clock : Clock) (n step m p : ℕ) (low : ℤ) → p ≤ tick_place
 unfolding steps_from
 steps_rise clock n step zero p low h = tt
 steps_rise clock n step (suc m) p low h =
-    let later : moment_of low ≤ℤ moment_of (low +ℤ pos step) = omega (arith, ints) in
-    (h, steps_rise clock n step m (tick_place clock n low) (low +ℤ pos step)
-        (place_rises clock (moment_of low) (moment_of (low +ℤ pos step)) n later))
+    let later : moment_of low ≤ℤ moment_of (low +ℤ pos step) = omega (arith, ints) in (
+      h,
+      steps_rise clock n step m (tick_place clock n low) (low +ℤ pos step)
+          (place_rises clock (moment_of low) (moment_of (low +ℤ pos step)) n later),
+    )
 
 -- the places of ticks
 pub places_rise : (clock : Clock) (n : ℕ) → RisesFrom 0 (tick_places clock n)
@@ -157,8 +159,11 @@ module _ (boundaries : List ℕ) where
           RisesFrom k (filter_map (front_of boundaries) xs))
           → RisesFrom g (cons_option o (filter_map (front_of boundaries) xs))
       at None is rest = rest g (λ q j later there. above q j (omega (arith, later, h.0)) there)
-      at (Some k) is rest = (above x k h.0 is, rest k
-          (λ q j later there. front_rises boundaries x q k j later is there))
+      at (Some k) is rest = (
+        above x k h.0 is,
+        rest k
+            (λ q j later there. front_rises boundaries x q k j later is there),
+      )
 
   fronts_inside : (places : List ℕ) → All (λ k. k ≤ length boundaries - 1)
       (filter_map (front_of boundaries) places)
@@ -172,7 +177,7 @@ module _ (boundaries : List ℕ) where
       at (Some k) is rest =
           let inside = front_inside boundaries x k is in
           All-cons (λ k. k ≤ length boundaries - 1) k (filter_map (front_of boundaries) xs)
-              (omega (arith, inside)) rest
+          (omega (arith, inside)) rest
 
   -- the fronts of places that do not fall are starts of runs over the cycles
   pub fronts_start : (places : List ℕ) → RisesFrom 0 places →
@@ -207,16 +212,16 @@ consed (Some x) xs = refl
 pub one_tick : (boundaries : List ℕ) (clock : Clock) (n : ℕ) (second : ℤ) (left rest : List ℤ)
     (found new whole : List ℕ) (front : Option ℕ)
     → left ≡ second ∷ rest → front ≡ front_of boundaries (tick_place clock n second) → new ≡ found
-        ++ option_to_list front
+    ++ option_to_list front
     → found ++ filter_map (front_of boundaries) (map (tick_place clock n) left) ≡ whole → new
-        ++ filter_map (front_of boundaries) (map (tick_place clock n) rest) ≡ whole
+    ++ filter_map (front_of boundaries) (map (tick_place clock n) rest) ≡ whole
 one_tick boundaries clock n second left rest found new whole front splits is pushed so_far =
     let after = filter_map (front_of boundaries) (map (tick_place clock n) rest) in
     ap (λ xs. xs ++ after) pushed
     ∙ append_assoc found (option_to_list front) after
     ∙ ap (λ xs. found ++ xs) (sym (consed front after) ∙ ap (λ o. cons_option o after) is)
     ∙ ap (λ seconds. found ++ filter_map (front_of boundaries) (map (tick_place clock n) seconds))
-        (sym splits)
+    (sym splits)
     ∙ so_far
 
 -- where the list has ticks and nothing else, each of it is one

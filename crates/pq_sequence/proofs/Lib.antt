@@ -1,9 +1,9 @@
 pub mod BasicLemmas
-pub mod ConditionLemmas
+pub mod EventLemmas
 pub mod CutLaws
 pub mod FrontLemmas
+pub mod MergedLemmas
 pub mod PlaceLaws
 pub mod ResultLaws
 pub mod TouchLemmas
-pub mod WalkLemmas
 mod StandardFacts

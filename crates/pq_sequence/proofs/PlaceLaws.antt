@@ -1,58 +1,22 @@
--- Boundaries, events and basic intervals lie in the recording.
-use Rattle.std.proofs.Common.{◌≡◌, ℕ, zero, suc, ◌<◌, ◌≤◌, Bool, true, false, cond, not, ◌==◌, List, [], ◌∷◌, ◌++◌, length, map, filter, find, drop, Option, None, Some, option_map, option_and_then, slice_get, slice_index, slice_index_or, IfSome, All, ℤ, refl, arith}
+-- Events and basic intervals lie in the recording.
+use Rattle.std.proofs.Common.{ℕ, zero, suc, ◌+◌, ◌<◌, ◌≤◌, Bool, true, false, cond, ◌==◌, List, [], ◌∷◌, map, find, drop, Option, None, Some, option_and_then, slice_get, slice_index, slice_index_or, IfSome, All, arith}
+use Rattle.std.specs.List.{enumerate_from, flat_map}
 use Rattle.std.specs.Option.{option_map_or}
-use Rattle.std.proofs.lemmas.List.Elements.{All-append, All-cons, All-drop, All-filter, All-head, All-map, All-nil, All-tail, All-take}
-use Rattle.event_detect.specs.declared.event.Event.{Event}
+use Rattle.std.proofs.lemmas.List.Elements.{All-append, All-cons, All-drop, All-head, All-map, All-nil, All-tail, All-take}
 use Rattle.event_detect.specs.declared.kind.Kind.{Kind}
-use Rattle.event_detect.specs.declared.kind.Kind.TheVariants.{Dip, Swell, Interruption}
 use Rattle.event_detect.specs.declared.limits.Limits.{Limits}
-use Rattle.event_detect.specs.declared.window.Window.{Window}
 use Rattle.event_detect.specs.VoltageEvent.{Condition, Extent, event_over, events, seen_during, seen_value, worst}
-use Rattle.zero_cross.specs.declared.rule.Rule.{Rule}
-use Rattle.zero_cross.specs.Boundary.{IsRule, Boundary, boundary_at, boundary_after, boundaries, cycle_boundaries, first_boundary, next_boundary}
-use Rattle.zero_cross.proofs.BoundaryLaws.{first_within, next_within}
-use Rattle.pq_words.specs.Successors.{successors}
-use Rattle.pq_sequence.specs.MeasuredRecording.{all_events, condition_at, conditions}
+use Rattle.polyphase.specs.PolyphaseEvent.{ChannelWindow, all_polyphase_events, condition_at, conditions, kinds, polyphase_events}
+use Rattle.pq_sequence.proofs.MergedLemmas.{IsWindowIn}
+use Rattle.pq_sequence.specs.WholeResult.{IsPlaced}
 
--- ---- boundaries
-
-module _ (s : List ℤ) (rule : Rule) (given : IsRule rule) where
-  abbrev Lies : Boundary → Type 0
-  Lies b = b.place < length s
-
-  lies_at : (rising : Bool) (o : Option ℕ) → IfSome o (λ k. k < length s) →
-      IfSome (option_map (boundary_at rising) o) Lies
-  lies_at rising None h = tt
-  lies_at rising (Some k) h = h
-
-  place_of_two : (b : ℕ) (o : Option ℕ) → IfSome o (λ k. (b < k) × (k < length s)) →
-      IfSome o (λ k. k < length s)
-  place_of_two b None h = tt
-  place_of_two b (Some k) h = h.1
-
-  after_lies : (b : Boundary) → IfSome (boundary_after s rule b) Lies
-  after_lies b =
-      let next = next_boundary s rule b.place (not b.rising) in
-      lies_at (not b.rising) next (place_of_two b.place next
-          (next_within s rule b.place (not b.rising) given))
-
-  all_lie : (m : ℕ) (o : Option Boundary) → IfSome o Lies → All Lies (successors (boundary_after s rule) m o)
-  unfolding successors
-  all_lie m None lies = All-nil Lies
-  all_lie zero (Some b) lies = All-nil Lies
-  all_lie (suc m) (Some b) lies = All-cons Lies b (successors (boundary_after s rule) m
-      (boundary_after s rule b)) lies (all_lie m (boundary_after s rule b) (after_lies b))
-
-  boundaries_lie : All Lies (boundaries s rule)
-  unfolding boundaries
-  boundaries_lie = all_lie (length s) (option_map (boundary_at true) (first_boundary s rule))
-      (lies_at true (first_boundary s rule) (first_within s rule))
-
-  -- cycle boundaries are places in the signal
-  pub cycles_lie : All (λ k. k < length s) (cycle_boundaries s rule)
-  unfolding cycle_boundaries
-  cycles_lie = All-map (λ k. k < length s) (λ b. b.place) (filter (λ b. b.rising) (boundaries s rule))
-      (All-filter (λ b. b.rising) Lies (boundaries s rule) boundaries_lie)
+-- what is true of the lists is true of the whole
+pub all_flat : {X Y : Type 0} (P : Y → Type 0) (f : X → List Y) (xs : List X) → All (λ x. All P (f x)) xs →
+    All P (flat_map f xs)
+all_flat P f [] h = All-nil P
+all_flat P f (x ∷ xs) h =
+    All-append P (f x) (flat_map f xs) (All-head (λ x. All P (f x)) x xs h)
+    (all_flat P f xs (All-tail (λ x. All P (f x)) x xs h))
 
 -- ---- events
 
@@ -71,74 +35,75 @@ found P p [] h = tt
 found P p (x ∷ xs) h = one_of P (p x) (Some x) (find p xs) (All-head P x xs h)
     (found P p xs (All-tail P x xs h))
 
--- a condition of the one channel, with a window in the first n places
-abbrev IsSeen : ℕ → Condition → Type 0
-IsSeen n c = (c.window.start ≤ n) × (c.window.end ≤ n) × (c.channel ≡ 0)
+-- a condition with a window of one of so many channels, in the first n places
+abbrev IsSeen : ℕ → ℕ → Condition → Type 0
+IsSeen channels n c = (c.window.start ≤ n) × (c.window.end ≤ n) × (c.channel < channels)
 
--- an event of the one channel, in the first n places
-pub record IsPlaced (n : ℕ) (e : Event) : Type 0 where
-  pub start : e.start ≤ n
-  pub end : e.end ≤ n
-  pub channel : e.channel ≡ 0
+module _ (channels n : ℕ) (some : 0 < channels) where
+  start_placed : (o : Option Condition) → IfSome o (IsSeen channels n) →
+      option_map_or (λ c. c.window.start) o 0 ≤ n
+  start_placed None h = omega arith
+  start_placed (Some c) h = h.0
 
-start_placed : (n : ℕ) (o : Option Condition) → IfSome o (IsSeen n) →
-    option_map_or (λ c. c.window.start) o 0 ≤ n
-start_placed n None h = omega arith
-start_placed n (Some c) h = h.0
+  end_placed : (o : Option Condition) → IfSome o (IsSeen channels n) →
+      option_map_or (λ c. c.window.end) o n ≤ n
+  end_placed None h = omega arith
+  end_placed (Some c) h = h.1
 
-end_placed : (n : ℕ) (o : Option Condition) → IfSome o (IsSeen n) → option_map_or (λ c. c.window.end) o n ≤ n
-end_placed n None h = omega arith
-end_placed n (Some c) h = h.1
+  channel_placed : (o : Option Condition) → IfSome o (IsSeen channels n) →
+      option_map_or (λ c. c.channel) o 0 < channels
+  channel_placed None h = some
+  channel_placed (Some c) h = h.2
 
-channel_placed : (n : ℕ) (o : Option Condition) → IfSome o (IsSeen n) → option_map_or (λ c. c.channel) o 0 ≡ 0
-channel_placed n None h = refl
-channel_placed n (Some c) h = h.2
+  last_got : (cs : List Condition) (last : Option ℕ) → All (IsSeen channels n) cs →
+      IfSome (option_and_then (slice_get cs) last) (IsSeen channels n)
+  last_got cs None h = tt
+  last_got cs (Some k) h = got (IsSeen channels n) cs k h
 
-last_got : (n : ℕ) (cs : List Condition) (last : Option ℕ) → All (IsSeen n) cs →
-    IfSome (option_and_then (slice_get cs) last) (IsSeen n)
-last_got n cs None h = tt
-last_got n cs (Some k) h = got (IsSeen n) cs k h
+  over_placed : (kind : Kind) (cs : List Condition) (e : Extent) → All (IsSeen channels n) cs →
+      IsPlaced channels n (event_over kind n cs e)
+  unfolding event_over
+  over_placed kind cs e h =
+      let P = IsSeen channels n in
+      let seen = seen_during cs e in
+      let is = λ (c : Condition). seen_value c == worst kind (map seen_value seen) in
+      record {
+        start = start_placed (slice_get cs e.first) (got P cs e.first h);
+        end = end_placed (option_and_then (slice_get cs) e.last) (last_got cs e.last h);
+        channel = channel_placed (find is seen) (found P is seen
+            (All-take P _ (drop e.first cs) (All-drop P e.first cs h)));
+      }
 
-over_placed : (kind : Kind) (n : ℕ) (cs : List Condition) (e : Extent) → All (IsSeen n) cs →
-    IsPlaced n (event_over kind n cs e)
-unfolding event_over
-over_placed kind n cs e h =
-    let seen = seen_during cs e in
-    let is = λ (c : Condition). seen_value c == worst kind (map seen_value seen) in
-    record {
-      start = start_placed n (slice_get cs e.first) (got (IsSeen n) cs e.first h);
-      end = end_placed n (option_and_then (slice_get cs) e.last) (last_got n cs e.last h);
-      channel = channel_placed n (find is seen) (found (IsSeen n) is seen
-          (All-take (IsSeen n) _ (drop e.first cs) (All-drop (IsSeen n) e.first cs h)));
-    }
+  -- events over seen conditions are placed
+  events_placed : (kind : Kind) (cs : List Condition) → All (IsSeen channels n) cs →
+      All (IsPlaced channels n) (events kind n cs)
+  unfolding events
+  events_placed kind cs h = All-map (IsPlaced channels n) (event_over kind n cs) _
+      (λ k d inside. over_placed kind cs (slice_index_or _ k d) h)
 
--- events over seen conditions are placed
-events_placed : (kind : Kind) (n : ℕ) (cs : List Condition) → All (IsSeen n) cs →
-    All (IsPlaced n) (events kind n cs)
-unfolding events
-events_placed kind n cs h = All-map (IsPlaced n) (event_over kind n cs) _
-    (λ k d inside. over_placed kind n cs (slice_index_or _ k d) h)
+  each_second : {X : Type 0} (P : X → Type 0) (low : ℕ) (xs : List X) → All P xs →
+      All (λ p. P p.1) (enumerate_from low xs)
+  each_second P low [] h = All-nil (λ p. P p.1)
+  each_second P low (x ∷ xs) h =
+      All-cons (λ p. P p.1) (low, x) (enumerate_from (low + 1) xs) (All-head P x xs h)
+      (each_second P (low + 1) xs (All-tail P x xs h))
 
-told_seen : (kind : Kind) (limits : Limits) (n : ℕ) (ws : List Window) →
-    All (λ w. (w.start < w.end) × (w.end < n)) ws → All (IsSeen n) (conditions kind limits ws)
-told_seen kind limits n ws lie =
-    All-map (IsSeen n) (condition_at kind limits) ws
-        (λ k d inside. let both = lie k d inside in (omega (arith, both.0, both.1), omega (arith, both.1),
-        refl))
+  told_seen : (kind : Kind) (limits : Limits) (merged : List ChannelWindow) →
+      All (IsWindowIn channels n) merged → All (IsSeen channels n) (conditions kind limits channels merged)
+  unfolding conditions
+  told_seen kind limits merged lie =
+      All-map (IsSeen channels n) (λ p. condition_at kind limits channels merged p.0 p.1)
+      (enumerate_from 0 merged) (each_second (IsWindowIn channels n) 0 merged lie)
 
--- all events over windows in the first n places are placed
-pub all_placed : (limits : Limits) (n : ℕ) (ws : List Window) → All (λ w. (w.start < w.end) × (w.end < n)) ws
-    → All (IsPlaced n) (all_events limits n ws)
-unfolding all_events
-all_placed limits n ws lie =
-    let placed = λ (kind : Kind). events_placed kind n (conditions kind limits ws)
-        (told_seen kind limits n ws lie) in
-    let d = events Dip n (conditions Dip limits ws) in
-    let s = events Swell n (conditions Swell limits ws) in
-    let i = events Interruption n (conditions Interruption limits ws) in
-    let P = IsPlaced n in
-    All-append P d (s ++ (i ++ [])) (placed Dip) (All-append P s (i ++ []) (placed Swell)
-        (All-append P i [] (placed Interruption) (All-nil P)))
+  -- all events over windows in the first n places are placed
+  pub all_placed : (limits : Limits) (merged : List ChannelWindow) → All (IsWindowIn channels n) merged
+      → All (IsPlaced channels n) (all_polyphase_events limits channels n merged)
+  unfolding all_polyphase_events
+  all_placed limits merged lie =
+      let P = IsPlaced channels n in
+      all_flat P (λ kind. polyphase_events kind limits channels n merged) kinds
+      (λ k d inside. let kind = slice_index_or kinds k d in
+      events_placed kind (conditions kind limits channels merged) (told_seen kind limits merged lie))
 
 -- ---- basic intervals
 

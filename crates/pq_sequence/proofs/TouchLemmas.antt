@@ -46,7 +46,7 @@ begin_above low far [] above k d inside = absurd (omega (arith, inside))
 begin_above low far (event ∷ events) above zero d inside = above 0 event (omega arith)
 begin_above low far (event ∷ events) above (suc k) d inside =
     begin_above low (max event.end far) events (λ j e there. above (suc j) e (omega (arith, there))) k d
-        (omega (arith, inside))
+    (omega (arith, inside))
 
 beginnings_rise : (far : ℕ) (events : List Event) → IsNonDecreasingBy (λ event. event.start) events →
     IsNonDecreasingBy (λ reach. reach.start) (carried far events)
@@ -63,14 +63,14 @@ end_above far (event ∷ events) =
     let further = max event.end far in
     All-cons (λ reach. far ≤ reach.furthest) _ (carried further events) (omega arith)
     (All-weaker (λ reach. further ≤ reach.furthest) (λ reach. far ≤ reach.furthest)
-        (λ reach h. omega (arith, h)) (carried further events) (end_above further events))
+    (λ reach h. omega (arith, h)) (carried further events) (end_above further events))
 
 ends_rise : (far : ℕ) (events : List Event) → IsNonDecreasingBy (λ reach. reach.furthest) (carried far events)
 ends_rise far [] = IsNonDecreasingBy-short (λ reach. reach.furthest) [] (omega arith)
 ends_rise far (event ∷ events) =
     let further = max event.end far in
     rises (λ reach. reach.furthest) _ (carried further events) (end_above further events)
-        (ends_rise further events)
+    (ends_rise further events)
 
 -- ---- they tell what the events touch
 
@@ -91,7 +91,7 @@ past_neither a b place h is = le-ltb place a (let past = ltb-false place b is in
 -- start, and an earlier one does
 one_further : (begins later ends far rest : Bool) → (begins ≡ false → later ≡ false)
     → ((begins && (ends || far)) || (((ends || far) && later) || rest))
-        ≡ ((far && (begins || later)) || ((begins && ends) || rest))
+    ≡ ((far && (begins || later)) || ((begins && ends) || rest))
 one_further true later true true rest h = refl
 one_further true later true false rest h = refl
 one_further true later false true rest h = refl
@@ -106,7 +106,7 @@ one_further false false false false rest h = refl
 -- these begins before its end
 tell : (far start end : ℕ) (events : List Event) → IsNonDecreasingBy (λ event. event.start) events
     → is_reached (carried far events) start end ≡ ((nat_lt start far && begins_before end events) ||
-        is_touched events start end)
+    is_touched events start end)
 unfolding is_touched
 tell far start end [] h = grind (arith, nat_tests)
 tell far start end (event ∷ events) h =
@@ -116,13 +116,13 @@ tell far start end (event ∷ events) h =
     let none_later : begins ≡ false → begins_before end events ≡ false = λ is.
     list_any_none (λ event. nat_lt event.start end) events
     (λ k d inside. at_or_after event.start (get_or events k d).start end
-        (first_least (λ event. event.start) event events h k d inside) is) in
+    (first_least (λ event. event.start) event events h k d inside) is) in
     ap (λ later. (begins && nat_lt start further) || later)
-        (tell further start end events (rest_rises (λ event. event.start) event events h))
+    (tell further start end events (rest_rises (λ event. event.start) event events h))
     ∙ ap (λ past. (begins && past) || ((past && begins_before end events) || touched))
-        (past_further event.end far start)
+    (past_further event.end far start)
     ∙ one_further begins (begins_before end events) (nat_lt start event.end) (nat_lt start far) touched
-        none_later
+    none_later
 
 none_before_zero : (start : ℕ) (b touched : Bool) → ((nat_lt start 0 && b) || touched) ≡ touched
 none_before_zero start b touched = ap (λ past. (past && b) || touched) (le-ltb start 0 (omega arith))
@@ -176,10 +176,10 @@ module _ (reaches : List Reach) (start end count : ℕ) (parted : AreParted end 
       at : (b : Bool) → nat_lt start last ≡ b → b ≡ is_reached reaches start end
       at true is =
           sym (list_any_at reached reaches (count - 1) d (omega (arith, bound, some))
-              (and_from _ _ (parted.0 (count - 1) d (omega arith) (omega (arith, some))) is))
+          (and_from _ _ (parted.0 (count - 1) d (omega arith) (omega (arith, some))) is))
       at false is =
           sym (list_any_none reached reaches (All-from_get_or (λ reach. reached reach ≡ false) reaches d
-              (λ k inside. elim (cases_lt k count) [
+          (λ k inside. elim (cases_lt k count) [
             | inl before ↦ and_right _ _ (not_past k before is)
             | inr after ↦ and_left _ _ (parted.1 k d after inside)
           ])))

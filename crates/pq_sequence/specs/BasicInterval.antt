@@ -2,16 +2,11 @@
 -- each 10-minute tick (4.5, 5.2). That they begin at the first cycle boundary, what becomes of the interval
 -- over a tick, and that only whole intervals count, is profile.
 -- Sections are those of IEC 61000-4-30:2015; "profile" marks a choice of this project.
-use Rattle.std.specs.Prelude.{ℕ, ◌-◌, ◌<◌, ◌==◌, nat_le, if◌then◌else◌, List, ◌∷◌, length, map, filter_map, All, AllPairs, Option, slice_index}
+use Rattle.std.specs.Prelude.{ℕ, ◌-◌, ◌<◌, ◌==◌, nat_le, if◌then◌else◌, List, ◌∷◌, length, filter_map, Option, slice_index}
 use Rattle.std.specs.List.{dedup}
 use Rattle.pq_words.specs.First.{first_between}
 use Rattle.ten_twelve.specs.Run.{runs}
 use Rattle.ten_twelve.specs.declared.span.Span.{Span}
-
--- places of boundaries among n samples: each is below the next, and below n
-pub record AreBoundaries (places : List ℕ) (n : ℕ) : Type 0 where
-  pub rising : AllPairs (λ a b. a < b) places
-  pub below : All (λ place. place < n) places
 
 -- a run of cycles between so many boundaries: some cycles, whose boundaries are there
 pub record IsRun (boundaries : ℕ) (run : Span) : Type 0 where
@@ -39,9 +34,8 @@ basic_runs cycles boundaries places = runs (fronts boundaries places) cycles (le
 
 -- a run of cycles as a span of places: cycle j lies from boundary j up to boundary j + 1 (4.5)
 abbrev pub basic_span : List ℕ → Span → Span
-basic_span boundaries run = record { start = slice_index boundaries run.start; end =
-    slice_index boundaries run.end }
-
--- all basic intervals of so many cycles, with fronts at these places (4.5)
-abbrev pub basic_spans : ℕ → List ℕ → List ℕ → List Span
-basic_spans cycles boundaries places = map (basic_span boundaries) (basic_runs cycles boundaries places)
+basic_span boundaries run = record {
+  start = slice_index boundaries run.start;
+  end =
+      slice_index boundaries run.end;
+}

@@ -6,6 +6,7 @@ use Rattle.std.specs.List.Sorted.{IsNonDecreasingBy}
 use Rattle.event_detect.specs.declared.event.Event.{Event}
 use Rattle.event_detect.specs.Flag.{is_touched}
 use Rattle.pq_sequence.specs.declared.touches.Reach.{Reach}
+use Rattle.ten_twelve.specs.declared.span.Span.{Span}
 
 -- some reach begins before the end of the span and lasts past its start
 abbrev pub is_reached : List Reach → ℕ → ℕ → Bool
@@ -18,3 +19,8 @@ pub record AreReaches (events : List Event) (reaches : List Reach) : Type 0 wher
   pub beginnings : IsNonDecreasingBy (λ reach. reach.start) reaches
   pub ends : IsNonDecreasingBy (λ reach. reach.furthest) reaches
   pub tells : (start end : ℕ) → is_reached reaches start end ≡ is_touched events start end
+
+-- the answer of a look at the reaches: whether some event of those that have them touches the span (4.7)
+abbrev pub TellsTouch : List Reach → Span → Bool → Type 0
+TellsTouch reaches span answer = (events : List Event) → AreReaches events reaches →
+    answer ≡ is_touched events span.start span.end

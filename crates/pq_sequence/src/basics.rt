@@ -1,20 +1,20 @@
 // Basic intervals, with their values and flags.
-ghost use Rattle.std.specs.Prelude.{◌≡◌, ◌<◌, ◌≤◌, ◌-◌, ◌++◌, List, length, map, All, IfOk, OnOk};
-ghost use Rattle.event_detect.specs.declared.event.Event.{Event};
+ghost use Rattle.std.specs.Prelude.{◌≡◌, ◌<◌, ◌≤◌, ◌-◌, length, All, OnOk};
 ghost use Rattle.pq_base.specs.Recorded.{sample_count};
-ghost use Rattle.pq_sequence.specs.BasicInterval.{AreBoundaries, IsRun, basic_span, cycles_of};
-ghost use Rattle.pq_sequence.specs.SequentialResult.{basic_item};
-ghost use Rattle.pq_sequence.specs.Touches.{AreReaches};
+ghost use Rattle.pq_sequence.specs.BasicInterval.{IsRun, basic_span, cycles_of};
+ghost use Rattle.pq_sequence.specs.Lists.{Adds, Gives, GivesAll};
+ghost use Rattle.pq_sequence.specs.SequentialResult.{basic_over, basics_of, basics_over};
 ghost use Rattle.ten_twelve.specs.Run.{AreStarts, runs};
+ghost use Rattle.zero_cross.specs.Boundary.{AreBoundaries};
 
 use crate::cycles::cycles_of_line;
-use crate::touches::{Reach, is_touched, reaches};
+use crate::touches::{is_touched, reaches};
 use event_detect::Event;
 use fixed_rms::rms;
-use pq_base::Recording;
+use pq_base::{OutOfMemory, Recording};
 use pq_items::Item;
 use std::alloc::{AllocError, Global};
-use ten_twelve::{OutOfMemory, Span, chop};
+use ten_twelve::{Span, chop};
 
 /// The basic intervals as runs of cycles, from each front on.
 pub fn basic_runs(
@@ -22,20 +22,16 @@ pub fn basic_runs(
     fronts: &[u64],
     boundaries: &[u64],
     lf: u32,
-) -> Result<Vec<Span>, AllocError>
+) -> Result<Vec<Span>, OutOfMemory>
     requires { AreStarts fronts.now (length boundaries.now - 1) }
-    ensures value { IfOk result
-        (λ found. found.items ≡ runs fronts.now (cycles_of lf) (length boundaries.now - 1)) }
-    ensures within { IfOk result (λ found. All (IsRun (length boundaries.now)) found.items) }
+    ensures value { Gives result (runs fronts.now (cycles_of lf) (length boundaries.now - 1)) }
+    ensures within { GivesAll (IsRun (length boundaries.now)) result }
 {
     let count = boundaries.len().saturating_sub(1) as u64;
-    match chop(alloc, fronts, cycles_of_line(lf), count) {
-        Ok(found) => Ok(found),
-        Err(OutOfMemory) => Err(AllocError),
-    }
+    chop(alloc, fronts, cycles_of_line(lf), count).map_err(|_| OutOfMemory)
 }
 
-/// Adds the basic intervals of the first channel, one of each run of cycles.
+/// Adds the basic intervals of all channels, one a channel of each run of cycles.
 pub fn push_basics(
     alloc: Global,
     items: &mut Vec<Item>,
@@ -44,18 +40,32 @@ pub fn push_basics(
     runs: &[Span],
     events: &[Event],
 ) -> Result<(), AllocError>
-    requires channel { 0 < length recording.now.numbers }
     requires boundaries { AreBoundaries boundaries.now (sample_count recording.now) }
     requires runs { All (IsRun (length boundaries.now)) runs.now }
     ensures { OnOk result
-        (items.new.items ≡ items.old.items
-        ++ map (basic_item recording.now events.now 0)
-        (map (basic_span boundaries.now) runs.now)) }
+        (Adds items.old items.new (basics_of recording.now events.now boundaries.now runs.now)) }
 {
     let reaches = reaches(alloc, events)?;
     for run in runs {
         let span = span_of(boundaries, *run);
-        items.push(basic(recording, &reaches, span))?;
+        push_basics_over(items, recording, span, is_touched(&reaches, span))?;
+    }
+    Ok(())
+}
+
+// Adds the basic intervals of all channels over a span, with one flag.
+fn push_basics_over(
+    items: &mut Vec<Item>,
+    recording: &Recording,
+    span: Span,
+    flagged: bool,
+) -> Result<(), AllocError>
+    requires some { span.start < span.end }
+    requires inside { span.end ≤ sample_count recording.now }
+    ensures { OnOk result (Adds items.old items.new (basics_over recording.now span flagged)) }
+{
+    for position in 0..recording.channels() {
+        items.push(basic(recording, position, span, flagged))?;
     }
     Ok(())
 }
@@ -71,21 +81,20 @@ fn span_of(boundaries: &[u64], run: Span) -> Span
     }
 }
 
-// The basic interval of the first channel over a span.
-fn basic(recording: &Recording, reaches: &[Reach], span: Span) -> Item
-    requires channel { 0 < length recording.now.numbers }
+// The basic interval of the channel at a position over a span, with its flag.
+fn basic(recording: &Recording, position: u32, span: Span, flagged: bool) -> Item
+    requires channel { position < length recording.now.numbers }
     requires some { span.start < span.end }
     requires inside { span.end ≤ sample_count recording.now }
-    ensures { (events : List Event) → AreReaches events reaches.now
-        → result ≡ basic_item recording.now events 0 span }
+    ensures { result ≡ basic_over recording.now position span flagged }
 {
-    let samples = recording.samples(0);
+    let samples = recording.samples(position);
     Item::Basic {
-        channel: recording.number(0),
+        channel: recording.number(position),
         start: span.start,
         end: span.end,
         cycles: cycles_of_line(recording.lf()),
         value: rms(&samples[span.start as usize..span.end as usize]),
-        flagged: is_touched(reaches, span),
+        flagged,
     }
 }

@@ -1,85 +1,80 @@
-// Dips, swells and interruptions, over the whole list of windows.
-ghost use Rattle.std.specs.Prelude.{◌≡◌, ◌++◌, IfOk, OnOk, option_to_list};
-ghost use Rattle.event_detect.specs.Detector.{Ends, SeesMore};
+// Dips, swells and interruptions, over the whole list of merged windows.
+ghost use Rattle.std.specs.Prelude.{◌<◌, All, OnOk, option_to_list};
 ghost use Rattle.event_detect.specs.Threshold.{IsInOrder};
-ghost use Rattle.event_detect.specs.VoltageEvent.{events};
-ghost use Rattle.pq_sequence.specs.MeasuredRecording.{all_events as events_of_all_kinds, begins, condition_at, conditions, ends};
+ghost use Rattle.polyphase.specs.PolyphaseEvent.{IsChannelCount, all_polyphase_events};
+ghost use Rattle.pq_sequence.specs.EventLists.{AddsAnswers, AreEmpty, kind_by_kind};
+ghost use Rattle.pq_sequence.specs.Lists.{Adds, Gives};
 
-use event_detect::{Class, Detector, Event, Kind, Limits, Window, classify};
+use crate::merged::MergedWindow;
+use event_detect::{Event, Limits};
+use polyphase::Poly;
 use std::alloc::{AllocError, Global};
 
-/// The events of all kinds, kind by kind; those that do not end are open at place `n`.
+/// The events of all kinds over the merged windows of so many channels, kind by kind; those that do not
+/// end are open at place `n`.
 pub fn all_events(
     alloc: Global,
-    windows: &[Window],
+    windows: &[MergedWindow],
+    channels: u32,
     limits: &Limits,
     n: u64,
 ) -> Result<Vec<Event>, AllocError>
-    requires { IsInOrder limits.now }
-    ensures { IfOk result (λ found. found.items ≡ events_of_all_kinds limits.now n windows.now) }
+    requires channels { IsChannelCount channels }
+    requires there { All (λ m. m.channel < channels) windows.now }
+    requires limits { IsInOrder limits.now }
+    ensures { Gives result (all_polyphase_events limits.now channels n windows.now) }
 {
-    let mut found = Vec::new(alloc);
-    push_events(&mut found, Kind::Dip, windows, limits, n)?;
-    push_events(&mut found, Kind::Swell, windows, limits, n)?;
-    push_events(&mut found, Kind::Interruption, windows, limits, n)?;
-    Ok(found)
-}
-
-// Adds the events of one kind.
-fn push_events(
-    found: &mut Vec<Event>,
-    kind: Kind,
-    windows: &[Window],
-    limits: &Limits,
-    n: u64,
-) -> Result<(), AllocError>
-    requires { IsInOrder limits.now }
-    ensures { OnOk result
-        (found.new.items ≡ found.old.items
-        ++ events kind n (conditions kind limits.now windows.now)) }
-{
-    let mut detector = Detector::new(kind);
+    let mut poly = Poly::new(channels, *limits);
+    let mut lists = EventLists::new(alloc);
     for window in windows {
-        push_some(found, step(&mut detector, kind, limits, *window))?;
+        lists.push_answers(poly.step(window.position(), window.window()))?;
     }
-    push_some(found, detector.finish(n))
+    lists.push_answers(poly.finish(n))?;
+    lists.joined()
 }
 
-// Feeds a detector of the kind one window, and gives the event that ends there.
-fn step(detector: &mut Detector, kind: Kind, limits: &Limits, window: Window) -> Option<Event>
-    requires { IsInOrder limits.now }
-    ensures value { Ends detector.old (condition_at kind limits.now window) result }
-    ensures seen { SeesMore detector.old detector.new (condition_at kind limits.now window) }
-    ensures same { detector.new.kind ≡ detector.old.kind }
-{
-    let class = classify(limits, window.value);
-    detector.step(begins(kind, &class), ends(kind, &class), 0, window)
+// The events of each kind.
+#[derive(Drop)]
+pub struct EventLists {
+    dips: Vec<Event>,
+    swells: Vec<Event>,
+    interruptions: Vec<Event>,
 }
 
-// Whether an event of the kind begins at a value of this class.
-fn begins(kind: Kind, class: &Class) -> bool
-    ensures { result ≡ begins kind class.now }
-{
-    match kind {
-        Kind::Dip => class.below_dip,
-        Kind::Swell => class.above_swell,
-        Kind::Interruption => class.below_interruption,
+impl EventLists {
+    fn new(alloc: Global) -> EventLists
+        ensures { AreEmpty result }
+    {
+        EventLists {
+            dips: Vec::new(alloc),
+            swells: Vec::new(alloc),
+            interruptions: Vec::new(alloc),
+        }
     }
-}
 
-// Whether an event of the kind ends at a value of this class.
-fn ends(kind: Kind, class: &Class) -> bool
-    ensures { result ≡ ends kind class.now }
-{
-    match kind {
-        Kind::Dip => class.clear_dip,
-        Kind::Swell => class.clear_swell,
-        Kind::Interruption => class.clear_interruption,
+    // Adds one answer of each kind.
+    fn push_answers(&mut self, answers: [Option<Event>; 3]) -> Result<(), AllocError>
+        ensures { OnOk result (AddsAnswers self.old self.new answers) }
+    {
+        let [dip, swell, interruption] = answers;
+        push_some(&mut self.dips, dip)?;
+        push_some(&mut self.swells, swell)?;
+        push_some(&mut self.interruptions, interruption)
+    }
+
+    // The events of all kinds, kind by kind.
+    fn joined(self) -> Result<Vec<Event>, AllocError>
+        ensures { Gives result (kind_by_kind self) }
+    {
+        let mut all = self.dips;
+        all.extend_from_slice(&self.swells)?;
+        all.extend_from_slice(&self.interruptions)?;
+        Ok(all)
     }
 }
 
 fn push_some(list: &mut Vec<Event>, event: Option<Event>) -> Result<(), AllocError>
-    ensures { OnOk result (list.new.items ≡ list.old.items ++ option_to_list event) }
+    ensures { OnOk result (Adds list.old list.new (option_to_list event)) }
 {
     if let Some(event) = event {
         list.push(event)?;

@@ -1,13 +1,16 @@
 // Fronts: the cycles at which basic intervals begin anew.
-ghost use Rattle.std.specs.Prelude.{◌≡◌, ◌-◌, ◌≤◌, ◌++◌, length, IfOk, OnOk, option_to_list};
+ghost use Rattle.std.specs.Prelude.{◌≡◌, ◌-◌, ◌≤◌, length, IfOk, OnOk, option_to_list};
 ghost use Rattle.std.specs.List.Sorted.{IsNonDecreasing};
-ghost use Rattle.pq_sequence.specs.BasicInterval.{AreBoundaries, front_of, fronts};
+ghost use Rattle.pq_sequence.specs.BasicInterval.{front_of, fronts};
+ghost use Rattle.pq_sequence.specs.Lists.{Adds, Gives};
 ghost use Rattle.pq_sequence.specs.MeasuredRecording.{tick_place, tick_places};
 ghost use Rattle.pq_time.specs.Tick.{IsTick};
 ghost use Rattle.pq_time.specs.Time.{IsClock};
 ghost use Rattle.ten_twelve.specs.Run.{AreStarts};
+ghost use Rattle.zero_cross.specs.Boundary.{AreBoundaries};
 
 use pq_time::Clock;
+use pq_words::MOST_SAMPLES;
 use std::alloc::{AllocError, Global};
 
 // Seconds between two ticks.
@@ -24,9 +27,8 @@ pub fn all_fronts(
 ) -> Result<Vec<u64>, AllocError>
     requires boundaries { AreBoundaries boundaries.now n }
     requires clock { IsClock clock.now }
-    requires places { n ≤ 50_000_000 }
-    ensures value { IfOk result
-        (λ found. found.items ≡ fronts boundaries.now (tick_places clock.now n)) }
+    requires places { n ≤ MOST_SAMPLES }
+    ensures value { Gives result (fronts boundaries.now (tick_places clock.now n)) }
     ensures within { IfOk result (λ found. AreStarts found.items (length boundaries.now - 1)) }
 {
     let mut found = vec![in alloc; 0u64]?;
@@ -41,7 +43,7 @@ pub fn all_fronts(
 // The place of a tick.
 fn tick_place(clock: &Clock, n: u64, second: i64) -> u64
     requires clock { IsClock clock.now }
-    requires places { n ≤ 50_000_000 }
+    requires places { n ≤ MOST_SAMPLES }
     requires tick { IsTick clock.now n 600 second }
     ensures { result ≡ tick_place clock.now n second }
 {
@@ -58,7 +60,7 @@ fn front_of(boundaries: &[u64], place: u64) -> Option<u64>
 }
 
 fn push_front(found: &mut Vec<u64>, front: Option<u64>) -> Result<(), AllocError>
-    ensures { OnOk result (found.new.items ≡ found.old.items ++ option_to_list front) }
+    ensures { OnOk result (Adds found.old found.new (option_to_list front)) }
 {
     if let Some(front) = front {
         found.push(front)?;

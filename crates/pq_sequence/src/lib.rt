@@ -1,7 +1,9 @@
-//! The sequential result of a recording: its basic intervals, flagged where an event touches them, and its events, in order.
+//! The sequential result of a recording of one or several channels: the basic intervals of each, flagged
+//! alike where an event touches them, and the events of the whole supply, in order.
 #![tactic(auto)]
 
 pub use clock::clock_of;
+pub use laws::{cut_is_prefix, events_lie_within, fronts_rise};
 pub use sequential::sequence;
 
 mod basics;
@@ -9,8 +11,9 @@ mod clock;
 mod cycles;
 mod events;
 mod fronts;
+mod laws;
+mod merged;
 mod sequential;
 #[cfg(test)]
 mod tests;
 mod touches;
-mod windows;

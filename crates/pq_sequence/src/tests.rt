@@ -1,5 +1,5 @@
 // Worked recordings, by hand: 24 samples a cycle at 1200 Hz and 50 Hz.
-ghost use Rattle.std.specs.Prelude.{◌≡◌, ◌^◌, ◌≤◌, ◌*◌, length, All, IfOk};
+ghost use Rattle.std.specs.Prelude.{◌≡◌, ◌≤◌, length, All, IfOk};
 ghost use Rattle.event_detect.specs.Threshold.{IsInOrder};
 ghost use Rattle.pq_words.specs.Magnitude.{IsWithin};
 
@@ -7,6 +7,7 @@ use crate::sequence;
 use event_detect::{Limits, Settings};
 use pq_base::Recording;
 use pq_items::Item;
+use pq_words::{MOST_MICROVOLTS, MOST_NANOSECONDS};
 use std::alloc::{AllocError, Global};
 use std::cmp::Ordering;
 use std::process::Abort;
@@ -39,7 +40,7 @@ fn square(place: usize, count: i16) -> i64
 }
 
 fn sample(signal: Signal, place: usize) -> i64
-    ensures { IsWithin (10 ^ 13) result }
+    ensures { IsWithin MOST_MICROVOLTS result }
 {
     match signal {
         Signal::Silence => 0,
@@ -68,7 +69,7 @@ fn sample(signal: Signal, place: usize) -> i64
 // n samples of a signal, in microvolts.
 fn samples(alloc: Global, signal: Signal, n: usize) -> Result<Vec<i64>, AllocError>
     ensures count { IfOk result (λ samples. length samples.items ≡ n) }
-    ensures quiet { IfOk result (λ samples. All (IsWithin (10 ^ 13)) samples.items) }
+    ensures quiet { IfOk result (λ samples. All (IsWithin MOST_MICROVOLTS) samples.items) }
 {
     let mut samples = Vec::with_capacity(alloc, n)?;
     for place in 0..n {
@@ -79,7 +80,7 @@ fn samples(alloc: Global, signal: Signal, n: usize) -> Result<Vec<i64>, AllocErr
 
 // So many milliseconds after noon of 1 March 2024.
 fn moment(milliseconds: i16) -> i64
-    ensures { IsWithin (8 * 10 ^ 18) result }
+    ensures { IsWithin MOST_NANOSECONDS result }
 {
     1_709_294_400_000_000_000 + i64::from(milliseconds) * 1_000_000
 }
@@ -92,7 +93,6 @@ fn recording(
     n: usize,
 ) -> Result<Recording, AllocError>
     requires { n ≤ 10_000 }
-    ensures { IfOk result (λ recording. length recording.numbers ≡ 1) }
 {
     let samples = vec![in alloc; samples(alloc, signal, n)?]?;
     let numbers = vec![in alloc; 1u32]?;
@@ -239,7 +239,8 @@ fn worked_recordings(rt: HostRuntime) -> Result<(), Fail> {
                 INTERRUPTION,
             ],
         ),
-        // Noon at place 594, whose front is at 600; before the first boundary; before the last one; at the end.
+        // Noon at place 594, whose front is at 600; before the first boundary; before the last one;
+        // at the end.
         (
             Signal::Sine,
             -495,

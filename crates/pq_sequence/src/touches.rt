@@ -1,15 +1,14 @@
 // Which spans events touch, told by how far those reach that begin before a place.
-ghost use Rattle.std.specs.Prelude.{◌≡◌, List, IfOk};
+ghost use Rattle.std.specs.Prelude.{IfOk};
 ghost use Rattle.std.specs.List.Sorted.{IsNonDecreasingBy};
-ghost use Rattle.event_detect.specs.Flag.{is_touched};
-ghost use Rattle.event_detect.specs.declared.event.Event.{Event};
-ghost use Rattle.pq_sequence.specs.Touches.{AreReaches};
+ghost use Rattle.pq_sequence.specs.Touches.{AreReaches, TellsTouch};
 
 use event_detect::Event;
 use std::alloc::{AllocError, Global};
 use ten_twelve::Span;
 
-/// How far events reach: the place at which one begins, and the furthest end of those that begin there or before it.
+/// How far events reach: the place at which one begins, and the furthest end of those that begin there
+/// or before it.
 #[derive(Clone, Copy)]
 pub struct Reach {
     pub start: u64,
@@ -42,10 +41,10 @@ fn reaches_in_order(alloc: Global, events: &[Event]) -> Result<Vec<Reach>, Alloc
     Ok(found)
 }
 
-/// Whether some event, of any kind, touches the span: whether one of those that begin before the span's end ends after its start.
+/// Whether some event, of any kind, touches the span: whether one of those that begin before the span's
+/// end ends after its start.
 pub fn is_touched(reaches: &[Reach], span: Span) -> bool
-    ensures { (events : List Event) → AreReaches events reaches.now
-        → result ≡ is_touched events span.start span.end }
+    ensures { TellsTouch reaches.now span result }
 {
     let count = reaches.partition_point(|reach| reach.start < span.end);
     count > 0 && span.start < reaches[count - 1].furthest

@@ -1,14 +1,22 @@
-use Rattle.std.proofs.Common.{◌∙◌, length, All, ap, sym, subst}
-use Rattle.pq_sequence.specs.BasicInterval.{IsRun}
+use Rattle.std.proofs.Common.{◌≡◌, ◌-◌, length, All, refl, subst, sym, arith}
+use Rattle.std.proofs.lemmas.Grind.{common_steps}
+use Rattle.std.proofs.lemmas.Result.{IfOk-weaker}
+use Rattle.pq_sequence.specs.BasicInterval.{IsRun, cycles_of}
 use Rattle.pq_sequence.proofs.BasicLemmas.{runs_lie, some_cycles}
 use Rattle.ten_twelve.specs.Run.{runs}
 use Rattle.pq_sequence.proofs.basics.basic_runs.Goals as goal
 
--- the cycles of a run lie between boundaries
-pub returns-in-Ok-clause-within : goal.returns-in-Ok-clause-within
-returns-in-Ok-clause-within c =
+-- the runs are those of `chop`
+pub returns-clause-value : goal.returns-clause-value
+returns-clause-value c = grind (arith, common_steps)
+
+-- whose cycles lie between boundaries
+pub returns-clause-within : goal.returns-clause-within
+returns-clause-within c =
     let n = length c.args.boundaries.now in
-    let some = some_cycles c.args.lf c.cycles_of_line.result c.cycles_of_line.ensures in
-    let all = c.in-Ok.ensures ∙ ap (runs c.args.fronts.now c.cycles_of_line.result)
-        c.saturating_sub-count.ensures in
-    subst (λ xs. All (IsRun n) xs) (sym all) (runs_lie c.args.fronts.now c.cycles_of_line.result n some)
+    let cycles = cycles_of c.args.lf in
+    let all = runs c.args.fronts.now cycles (n - 1) in
+    IfOk-weaker c.map_err.result (λ found. found.items ≡ all) (λ found. All (IsRun n) found.items)
+    (λ found is. subst (λ xs. All (IsRun n) xs) (sym is)
+    (runs_lie c.args.fronts.now cycles n (some_cycles c.args.lf cycles refl)))
+    (returns-clause-value c)

@@ -1,12 +1,8 @@
-use Rattle.std.proofs.Common.{◌≡◌, ◌-◌, ◌++◌, length}
-use Rattle.pq_sequence.proofs.WalkLemmas.{IsWalked, cycles_left}
-use Rattle.zero_cross.specs.Boundary.{cycle_boundaries}
+use Rattle.std.proofs.Common.{◌≡◌, ◌++◌}
+use Rattle.zero_cross.specs.Boundary.{rising_places}
 use Rattle.pq_sequence.proofs.cycles.cycle_boundaries.Given as goal
 
--- what is found and what is left are all cycle boundaries
-abbrev pub invariant-loop : goal.invariant-loop
-invariant-loop l = record {
-  whole : l.found.items ++ cycles_left l.samples l.rule l.rising (length l.samples - l.counter) l.place
-      ≡ cycle_boundaries l.samples l.rule;
-  walked : IsWalked l.found.items l.place (length l.samples);
-}
+-- the cycle boundaries so far and those among the boundaries that are left are all
+abbrev pub invariant-loop-boundary : goal.invariant-loop-boundary
+invariant-loop-boundary l = l.found.items ++ rising_places l.boundary-iterator
+    ≡ rising_places l.initial.boundary-iterator

@@ -24,7 +24,7 @@ loop-second-preserved c =
       whole = one_tick boundaries clock c.args.n second left c.next.new.self c.loop-second.found.items
           c.push_front.new.found.items _ c.front_of.result
           splits (c.front_of.ensures ∙ ap (front_of boundaries) place) c.in_ok-push_front.ensures
-              c.loop-second.invariant.whole;
+          c.loop-second.invariant.whole;
       ticks = All-tail (IsTick clock c.args.n 600) second c.next.new.self
           (subst (λ (xs : List ℤ). All (IsTick clock c.args.n 600) xs) splits c.loop-second.invariant.ticks);
     }
@@ -34,16 +34,16 @@ pub returns-clause-value : goal.returns-clause-value
 unfolding fronts tick_places
 returns-clause-value c =
     let front = λ (seconds : List ℤ). filter_map (front_of c.args.boundaries.now)
-        (map (tick_place c.args.clock.now c.args.n) seconds) in
+    (map (tick_place c.args.clock.now c.args.n) seconds) in
     let found : c.loop-second.found.items ≡ 0 ∷ front (ticks c.args.clock.now c.args.n 600) =
     sym (append-nil c.loop-second.found.items) ∙ ap (λ seconds. c.loop-second.found.items ++ front seconds)
-        (sym c.in-None.ensures.steps.0) ∙ c.loop-second.invariant.whole in
+    (sym c.in-None.ensures.steps.0) ∙ c.loop-second.invariant.whole in
     dedup_is (λ a b. a == b) c.loop-second.found.items c.dedup.new.self.items c.dedup.ensures.filtered
-        ∙ ap (dedup (λ a b. a == b)) found
+    ∙ ap (dedup (λ a b. a == b)) found
 
 -- they rise, and are boundaries
 pub returns-clause-within : goal.returns-clause-within
 returns-clause-within c =
     subst (λ starts. AreStarts starts (length c.args.boundaries.now - 1)) (sym (returns-clause-value c))
     (fronts_start c.args.boundaries.now (tick_places c.args.clock.now c.args.n)
-        (places_rise c.args.clock.now c.args.n))
+    (places_rise c.args.clock.now c.args.n))

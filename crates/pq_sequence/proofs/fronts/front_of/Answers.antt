@@ -8,5 +8,5 @@ pub returns : goal.returns
 returns c =
     let rising = IsPartitionedBy-ltb (λ b. b) c.args.boundaries.now c.args.place c.requires in
     let parted = IsPartitionPoint-from_clause (λ b. ltb b c.args.place) _ _
-        c.partition_point-index.ensures.partitioned rising (λ a r q k. search rules) in
+    c.partition_point-index.ensures.partitioned rising (λ a r q k. search rules) in
     c.then_some.ensures ∙ front_is c.args.boundaries.now c.args.place c.partition_point-index.result parted

@@ -9,8 +9,13 @@ pub overflow_mul-second : goal.overflow_mul-second
 unfolding time_of
 overflow_mul-second c =
     let clock = c.args.clock.now in
-    omega (arith, ints, passed_small c.args.n clock.rate c.requires.places c.requires.clock.slowest,
-        c.requires.tick.not_before, c.requires.tick.not_after)
+    omega (
+      arith,
+      ints,
+      passed_small c.args.n clock.rate c.requires.places c.requires.clock.slowest,
+      c.requires.tick.not_before,
+      c.requires.tick.not_after,
+    )
 
 -- the place of its moment
 pub returns : goal.returns
@@ -19,7 +24,12 @@ returns c =
     let clock = c.args.clock.now in
     let second : FitsSigned w64 c.args.second = omega (arith, ints) in
     let moment : FitsSigned w64 (c.args.second *ℤ pos 1_000_000_000) =
-    omega (arith, ints, passed_small c.args.n clock.rate c.requires.places c.requires.clock.slowest,
-        c.requires.tick.not_before, c.requires.tick.not_after) in
+    omega (
+      arith,
+      ints,
+      passed_small c.args.n clock.rate c.requires.places c.requires.clock.slowest,
+      c.requires.tick.not_before,
+      c.requires.tick.not_after,
+    ) in
     let is = simp to_z-of_z at c.place_of.ensures.value in
     is

@@ -1,8 +1,9 @@
-use Rattle.std.proofs.Common.{◌≡◌, ◌++◌, map, take}
-use Rattle.pq_sequence.specs.SequentialResult.{event_item}
+use Rattle.std.proofs.Common.{take}
+use Rattle.pq_sequence.specs.Lists.{Adds}
+use Rattle.pq_sequence.specs.SequentialResult.{event_items}
 use Rattle.pq_sequence.proofs.sequential.push_event_items.Given as goal
 
 -- the events so far
 abbrev pub invariant-loop-event : goal.invariant-loop-event
-invariant-loop-event l = l.items.items ≡ l.fn.items.items
-    ++ map (event_item l.recording) (take l.event-index l.events)
+invariant-loop-event l =
+    Adds l.fn.items l.items (event_items l.recording (take l.event-index l.events))

@@ -8,17 +8,18 @@ use Rattle.pq_words.specs.Sorted.{in_order}
 use Rattle.pq_sequence.proofs.sequential.sequence.Goals as goal
 
 -- the items, in order
-pub returns-in-Ok-clause-value : goal.returns-in-Ok-clause-value
+pub returns-clause-value : goal.returns-clause-value
 unfolding sequential
-returns-in-Ok-clause-value c =
-    let whole : take c.in-Ok.items.len (c.sort_items.new.items
-        ++ drop (length c.sort_items.new.items) c.in-Ok.items.items) ≡ c.sort_items.new.items =
-        grind (arith, common_steps) in
-    whole ∙ c.sort_items.ensures ∙ ap (in_order item_cmp) (c.deref_mut.ensures.value ∙ c.in-Ok.ensures.value)
+returns-clause-value c =
+    let whole : take c.in_ok-items.items.len (c.sort_items.new.items
+    ++ drop (length c.sort_items.new.items) c.in_ok-items.items.items) ≡ c.sort_items.new.items =
+    grind (arith, common_steps) in
+    whole ∙ c.sort_items.ensures.value
+    ∙ ap (in_order item_cmp) (c.deref_mut.ensures.value ∙ c.in_ok-items.ensures.value)
 
 -- the same items, so all in range
-pub returns-in-Ok-clause-within : goal.returns-in-Ok-clause-within
-returns-in-Ok-clause-within c =
-    subst (λ items. All IsItemInRange items) (sym (returns-in-Ok-clause-value c))
+pub returns-clause-within : goal.returns-clause-within
+returns-clause-within c =
+    subst (λ items. All IsItemInRange items) (sym (returns-clause-value c))
     (result_in_range c.args.recording.now c.args.limits.now
-        (subst (λ items. All IsItemInRange items) c.in-Ok.ensures.value c.in-Ok.ensures.within))
+    (subst (λ items. All IsItemInRange items) c.in_ok-items.ensures.value c.in_ok-items.ensures.within))

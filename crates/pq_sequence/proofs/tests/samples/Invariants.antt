@@ -1,4 +1,5 @@
-use Rattle.std.proofs.Common.{◌≡◌, ◌^◌, length, All}
+use Rattle.std.proofs.Common.{◌≡◌, length, All}
+use Rattle.pq_words.specs.declared.limits.TheConstants.{MOST_MICROVOLTS}
 use Rattle.pq_words.specs.Magnitude.{IsWithin}
 use Rattle.pq_sequence.proofs.tests.samples.Given as goal
 
@@ -6,5 +7,5 @@ use Rattle.pq_sequence.proofs.tests.samples.Given as goal
 abbrev pub invariant-loop-place : goal.invariant-loop-place
 invariant-loop-place l = record {
   count : length l.samples.items ≡ l.place;
-  quiet : All (IsWithin (10 ^ 13)) l.samples.items;
+  quiet : All (IsWithin MOST_MICROVOLTS) l.samples.items;
 }

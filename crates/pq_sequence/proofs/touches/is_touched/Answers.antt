@@ -10,9 +10,9 @@ returns-then-count-gt0 c events are =
     let span = c.args.span in
     let rising = IsPartitionedBy-ltb (λ reach. reach.start) reaches span.end are.beginnings in
     let parted = IsPartitionPoint-from_clause (λ reach. ltb reach.start span.end) _ _
-        c.partition_point-count.ensures.partitioned rising (λ a r q k. search rules) in
+    c.partition_point-count.ensures.partitioned rising (λ a r q k. search rules) in
     last_tells reaches span.start span.end c.partition_point-count.result parted _
-        c.partition_point-count.ensures.bound are.ends (search rules) ∙ are.tells span.start span.end
+    c.partition_point-count.ensures.bound are.ends (search rules) ∙ are.tells span.start span.end
 
 -- no reach begins before the end of the span
 pub returns-else-count-gt0 : goal.returns-else-count-gt0
@@ -21,6 +21,6 @@ returns-else-count-gt0 c events are =
     let span = c.args.span in
     let rising = IsPartitionedBy-ltb (λ reach. reach.start) reaches span.end are.beginnings in
     let parted = IsPartitionPoint-from_clause (λ reach. ltb reach.start span.end) _ _
-        c.partition_point-count.ensures.partitioned rising (λ a r q k. search rules) in
+    c.partition_point-count.ensures.partitioned rising (λ a r q k. search rules) in
     none_tells reaches span.start span.end c.partition_point-count.result parted c.if-count-gt0.false
-        ∙ are.tells span.start span.end
+    ∙ are.tells span.start span.end

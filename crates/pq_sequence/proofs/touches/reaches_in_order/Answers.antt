@@ -11,5 +11,5 @@ returns c =
     let found = c.loop-event.found.items in
     let all : found ≡ carried 0 events =
     sym (append-nil found) ∙ ap (λ left. found ++ carried c.loop-event.furthest left)
-        (sym (drop_all c.loop-event.event-index events (omega arith))) ∙ c.loop-event.invariant in
+    (sym (drop_all c.loop-event.event-index events (omega arith))) ∙ c.loop-event.invariant in
     subst (AreReaches events) (sym all) (carried_reaches events c.requires)
