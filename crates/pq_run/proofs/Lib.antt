@@ -1,8 +1,8 @@
 pub mod CourseLemmas
-pub mod SampleLemmas
-pub mod StageLemmas
+pub mod FileLemmas
+pub mod IntervalsLemmas
+pub mod PartLemmas
+pub mod ReadingLemmas
 pub mod SelectionLemmas
-pub mod RecordingLemmas
-pub mod DatFaultLaws
 mod StandardFacts
 mod VerdictFacts

@@ -1,27 +1,25 @@
 -- Worked values, so that a wrong rule in the specs does not check.
-use Rattle.std.proofs.Common.{◌≡◌, [], ◌∷◌, ◌++◌, map, replicate, refl, pos, negsuc, true, false, Ok, Err}
+use Rattle.std.proofs.Common.{◌≡◌, [], ◌∷◌, map, refl, pos, true, false}
 use Rattle.std.specs.Fmt.{digits}
-use Rattle.std.specs.Prelude.{codes, slice_set}
+use Rattle.std.specs.Prelude.{codes}
 use Rattle.cfg_fields.specs.declared.fault.Quantity.TheVariants as quantity
 use Rattle.cfg_fields.specs.declared.fault.Unsupported.TheVariants as unsupported
-use Rattle.comtrade_cfg.specs.declared.voltage.Coefficients.{Coefficients}
 use Rattle.event_detect.specs.Flag.{is_touched}
 use Rattle.event_detect.specs.Threshold.{class_of, limits_of}
 use Rattle.event_detect.specs.VoltageEvent.{event_from, event_over, events, extents}
 use Rattle.fixed_rms.specs.Root.{isqrt, mean_square, rms, root_in}
 use Rattle.half_cycle.specs.HalfCycleWindow.{window_between, windows, windows_over}
+use Rattle.jiff_core.specs.Calendar.{days_of_months}
 use Rattle.pq_base.specs.Recorded.{Recorded}
-use Rattle.pq_base.specs.Sample.{sample_of}
 use Rattle.pq_items.specs.declared.item.Item.TheVariants as item
-use Rattle.pq_run.specs.BinaryRecord.{count_at, record_at, size_with}
 use Rattle.pq_run.specs.ReportText.{header, item_row, report_text, rows_text}
-use Rattle.pq_run.specs.Samples.{channel_samples, judged_dat, judged_records}
 use Rattle.pq_run.specs.Settings.{usual_limits}
 use Rattle.pq_run.specs.StatusText.{code_of, sentence_of}
-use Rattle.pq_run.specs.declared.dat_fault.DatFault.TheVariants as fault
+use Rattle.comtrade_dat.specs.declared.dat_fault.DatFault.TheVariants as fault
 use Rattle.pq_run.specs.declared.status.Status.TheVariants as status
 use Rattle.pq_sequence.specs.BasicInterval.{basic_runs, front_of, fronts}
-use Rattle.pq_sequence.specs.MeasuredRecording.{all_events, tick_places}
+use Rattle.polyphase.specs.PolyphaseEvent.{all_polyphase_events, begins, conditions, ends, latest, merged_windows}
+use Rattle.pq_sequence.specs.MeasuredRecording.{tick_places}
 use Rattle.pq_sequence.specs.SequentialResult.{items_under, sequential}
 use Rattle.pq_time.specs.Printed.{date_shown, printed_moment}
 use Rattle.pq_time.specs.Tick.{ticks}
@@ -32,7 +30,6 @@ use Rattle.pq_words.specs.First.{first_between, first_of}
 use Rattle.pq_words.specs.Sorted.{in_order, put_in_order}
 use Rattle.pq_words.specs.Steps.{numbers_from, steps_from}
 use Rattle.pq_words.specs.Successors.{successors}
-use Rattle.pq_words.specs.Text.{Text}
 use Rattle.ten_twelve.specs.Run.{runs}
 use Rattle.zero_cross.specs.Boundary.{boundaries, cycle_boundaries, first_boundary, next_boundary, rule_of}
 
@@ -45,110 +42,79 @@ clock = record { t0 = pos 1709294401000000000; rate = 1200000000 }
 -- rows of items by hand: a record is clear or flagged, an event closed or open
 pub rows : rows_text clock
     (item.Basic 1 24 264 10 229805362 false ∷ item.Basic 12 264 504 12 211869380 true ∷ item.Dip 1 252 336
-        114896273 false ∷ item.Interruption 1 0 1200 0 true ∷ item.Swell 999 12 24 253000001 false ∷ [])
+    114896273 false ∷ item.Interruption 1 0 1200 0 true ∷ item.Swell 999 12 24 253000001 false ∷ [])
     ≡ codes
-        "kind,channel,start,end,from,to,tick,value,count,mark\nbasic,1,24,264,2024-03-01T12:00:01.020000000Z,2024-03-01T12:00:01.220000000Z,,229805362,10,clear\nbasic,12,264,504,2024-03-01T12:00:01.220000000Z,2024-03-01T12:00:01.420000000Z,,211869380,12,flagged\ndip,1,252,336,2024-03-01T12:00:01.210000000Z,2024-03-01T12:00:01.280000000Z,,114896273,0,closed\ninterruption,1,0,1200,2024-03-01T12:00:01.000000000Z,2024-03-01T12:00:02.000000000Z,,0,0,open\nswell,999,12,24,2024-03-01T12:00:01.010000000Z,2024-03-01T12:00:01.020000000Z,,253000001,0,closed\n"
-unfolding header item_row time_of printed_moment date_shown digits
+    "kind,channel,start,end,from,to,tick,value,count,mark\nbasic,1,24,264,2024-03-01T12:00:01.020000000Z,2024-03-01T12:00:01.220000000Z,,229805362,10,clear\nbasic,12,264,504,2024-03-01T12:00:01.220000000Z,2024-03-01T12:00:01.420000000Z,,211869380,12,flagged\ndip,1,252,336,2024-03-01T12:00:01.210000000Z,2024-03-01T12:00:01.280000000Z,,114896273,0,closed\ninterruption,1,0,1200,2024-03-01T12:00:01.000000000Z,2024-03-01T12:00:02.000000000Z,,0,0,open\nswell,999,12,24,2024-03-01T12:00:01.010000000Z,2024-03-01T12:00:01.020000000Z,,253000001,0,closed\n"
+unfolding header item_row time_of printed_moment date_shown days_of_months first_between first_of digits
 rows = refl
 
 -- a reading, and a ten-minute record at a rate that divides no second, each with its tick
 pub rows_with_ticks : (item_row (record { t0 = pos 1709294409995000000; rate = 1200000000 })
     (item.Frequency (pos 1709294410) 6 12006 499 50000000 false)
     ≡ codes
-        "freq,0,6,12006,2024-03-01T12:00:10.000000000Z,2024-03-01T12:00:20.000000000Z,2024-03-01T12:00:10.000000000Z,50000000,499,clear\n")
+    "freq,0,6,12006,2024-03-01T12:00:10.000000000Z,2024-03-01T12:00:20.000000000Z,2024-03-01T12:00:10.000000000Z,50000000,499,clear\n")
     × (item_row (record { t0 = pos 1709294399000000000; rate = 1199000000 })
-        (item.Ten 1 (pos 1709294400) 1200 720720 2998 229805362 false)
+    (item.Ten 1 (pos 1709294400) 1200 720720 2998 229805362 false)
     ≡ codes
-        "ten,1,1200,720720,2024-03-01T12:00:00.000834028Z,2024-03-01T12:10:00.100917431Z,2024-03-01T12:00:00.000000000Z,229805362,2998,clear\n")
-unfolding item_row time_of printed_moment date_shown digits
+    "ten,1,1200,720720,2024-03-01T12:00:00.000834028Z,2024-03-01T12:10:00.100917431Z,2024-03-01T12:00:00.000000000Z,229805362,2998,clear\n")
+unfolding item_row time_of printed_moment date_shown days_of_months first_between first_of digits
 rows_with_ticks = (refl, refl)
 
 abbrev recorded : Recorded
-recorded = record { t0 = pos 1709294401000000000; rate = 1200000000; lf = 50; numbers = 1 ∷ []; reference = 0;
-    samples = sampled sine_count 32_500 552 ∷ [] }
+recorded = record {
+  t0 = pos 1709294401000000000;
+  rate = 1200000000;
+  lf = 50;
+  numbers = 1 ∷ [];
+  reference = 0;
+  samples = sampled sine_count 32_500 552 ∷ [];
+}
 
 -- two_intervals, to the byte
 pub two_intervals : report_text recorded (usual_limits 230000)
     ≡ codes
-        "kind,channel,start,end,from,to,tick,value,count,mark\nbasic,1,24,264,2024-03-01T12:00:01.020000000Z,2024-03-01T12:00:01.220000000Z,,229805362,10,clear\nbasic,1,264,504,2024-03-01T12:00:01.220000000Z,2024-03-01T12:00:01.420000000Z,,229805362,10,clear\n"
-unfolding report_text header item_row time_of printed_moment date_shown sequential in_order put_in_order
-    items_under all_events events extents event_from event_over successors windows windows_over window_between
+    "kind,channel,start,end,from,to,tick,value,count,mark\nbasic,1,24,264,2024-03-01T12:00:01.020000000Z,2024-03-01T12:00:01.220000000Z,,229805362,10,clear\nbasic,1,264,504,2024-03-01T12:00:01.220000000Z,2024-03-01T12:00:01.420000000Z,,229805362,10,clear\n"
+unfolding report_text header item_row time_of printed_moment date_shown days_of_months sequential in_order
+    put_in_order items_under all_polyphase_events merged_windows conditions begins ends latest events extents
+    event_from event_over successors windows windows_over window_between
     class_of limits_of tick_places ticks place_of fronts front_of basic_runs runs is_touched cycle_boundaries
     boundaries first_boundary next_boundary rule_of first_between first_of sampled sine_count numbers_from
     steps_from rms mean_square isqrt root_in digits
 two_intervals = refl
 
--- ---- the dat
-
--- records of one channel, of sixteen and of seventeen states
-pub sizes : map (λ status. size_with 2 status) (0 ∷ 16 ∷ 17 ∷ 999 ∷ []) ≡ 12 ∷ 14 ∷ 16 ∷ 138 ∷ []
-sizes = refl
-
--- records 1, 2, 7 and 14 of two_intervals: counts 0, 2588, 10000 and -2588
-abbrev some_records : Text
-some_records =
-    (1 ∷ 0 ∷ 0 ∷ 0 ∷ 0 ∷ 0 ∷ 0 ∷ 0 ∷ 0 ∷ 0 ∷ []) ++ (2 ∷ 0 ∷ 0 ∷ 0 ∷ 0 ∷ 0 ∷ 0 ∷ 0 ∷ 0x1c ∷ 0x0a ∷ [])
-    ++ (7 ∷ 0 ∷ 0 ∷ 0 ∷ 0 ∷ 0 ∷ 0 ∷ 0 ∷ 0x10 ∷ 0x27 ∷ [])
-        ++ (14 ∷ 0 ∷ 0 ∷ 0 ∷ 0 ∷ 0 ∷ 0 ∷ 0 ∷ 0xe4 ∷ 0xf5 ∷ [])
-
--- at 0.0325 V a count
-abbrev coefficients : Coefficients
-coefficients = record { a = pos 32500000000; b = pos 0 }
-
-pub known_samples : (map (λ r. count_at (record_at 10 some_records r) 0) (0 ∷ 1 ∷ 2 ∷ 3 ∷ [])
-    ≡ pos 0 ∷ pos 2588 ∷ pos 10000 ∷ negsuc 2587 ∷ [])
-    × (channel_samples coefficients 10 0 some_records 4
-        ≡ pos 0 ∷ pos 84110000 ∷ pos 325000000 ∷ negsuc 84109999 ∷ [])
-unfolding sample_of numbers_from
-known_samples = (refl, refl)
-
--- a half of a microvolt is rounded away from zero
-pub known_roundings : map (sample_of (pos 500000) (pos 1)) (pos 0 ∷ pos 1 ∷ negsuc 0 ∷ negsuc 2 ∷ [])
-    ≡ pos 0 ∷ pos 1 ∷ pos 0 ∷ negsuc 0 ∷ []
-unfolding sample_of
-known_roundings = refl
-
--- a byte less cuts the last record off, and a byte more is left over
-pub cut_and_long : map (λ bytes. judged_dat 10 (0 ∷ []) (replicate bytes 0) 3) (30 ∷ 29 ∷ 31 ∷ 0 ∷ [])
-    ≡ Ok (tt {0}) ∷ Err (fault.Short 3) ∷ Err (fault.Long 1) ∷ Err (fault.Short 1) ∷ []
-unfolding judged_records
-cut_and_long = refl
-
--- count -32768 is missing, -32767 is not; it is found before the end that is cut off after it, and before a
--- byte too many
-pub missing_counts : map (λ dat. judged_dat 10 (0 ∷ []) dat 3)
-    (slice_set (replicate 30 0) 19 0x80 ∷ slice_set (slice_set (replicate 30 0) 19 0x80) 18 1 ∷ slice_set
-        (replicate 29 0) 19 0x80 ∷ slice_set (replicate 31 0) 29 0x80 ∷ slice_set (replicate 15 0) 9 0x80 ∷
-        [])
-    ≡ Err (fault.Missing 2 1) ∷ Ok (tt {0}) ∷ Err (fault.Missing 2 1) ∷ Err (fault.Missing 3 1) ∷ Err
-        (fault.Missing 1 1) ∷ []
-unfolding judged_records
-missing_counts = refl
-
 -- ---- the sentences
 
 pub sentences : map sentence_of
-    (status.Usage ∷ status.CfgFault 2 0 ∷ status.CfgFault 3 13 ∷ status.Unsupported unsupported.FileType 9 ∷
-        status.Limit quantity.Status 2 ∷ status.Unsupported unsupported.NotYet 2 ∷ status.Limit
-        quantity.CfgBytes 0 ∷ status.Limit quantity.DatBytes 3 ∷ status.Selection 0 ∷ status.Selection 9 ∷
-        status.Limit quantity.Value 3 ∷ status.DatFault (fault.Short 552) ∷ status.DatFault
-        (fault.Missing 5 1) ∷ status.DatFault (fault.Long 1)
+    (status.Usage ∷ status.CfgFault 2 0 ∷ status.CfgFault 3 13
+    ∷ status.Unsupported unsupported.FileType 9
+    ∷ status.Limit quantity.Status 2 ∷ status.Limit quantity.CfgBytes 0 ∷ status.Limit quantity.Value 3
+    ∷ status.Selection 0 ∷ status.Selection 9
+    ∷ status.DatFault (fault.Short 552) ∷ status.DatFault (fault.Number 3 4294967295)
+    ∷ status.DatFault (fault.Missing 5 1) ∷ status.DatFault (fault.Long 1)
     ∷ status.ReadFault 1 ∷ status.WriteFault 2 ∷ status.OutOfMemory ∷ status.NoFile 2 ∷ status.Done ∷ [])
-    ≡ codes "usage: words not understood" ∷ codes "cfg line 2: missing, surplus or wrong number of fields" ∷
-        codes "cfg line 3 field 13: not readable" ∷ codes "cfg line 9: unsupported file type" ∷ codes
-        "cfg line 2: limit passed: status channels" ∷ codes "cfg line 2: unsupported not yet" ∷ codes
-        "limit passed: cfg bytes" ∷ codes "cfg line 3: limit passed: dat bytes" ∷ codes
-        "selection: no voltage channel" ∷ codes "selection: channel 9" ∷ codes
-        "cfg line 3: limit passed: value" ∷ codes "dat record 552: cut off" ∷ codes
-        "dat record 5: channel 1 missing"
-    ∷ codes "dat: 1 bytes after the last record" ∷ codes "read failed (1)" ∷ codes "write failed (2)" ∷ codes
-        "out of memory" ∷ codes "file 2: not found" ∷ [] ∷ []
+    ≡ codes "usage: words not understood"
+    ∷ codes "cfg line 2: missing, surplus or wrong number of fields"
+    ∷ codes "cfg line 3 field 13: not readable"
+    ∷ codes "cfg line 9: unsupported file type"
+    ∷ codes "cfg line 2: limit passed: status channels"
+    ∷ codes "limit passed: cfg bytes"
+    ∷ codes "cfg line 3: limit passed: value"
+    ∷ codes "selection: no voltage channel"
+    ∷ codes "selection: channel 9"
+    ∷ codes "dat record 552: cut off"
+    ∷ codes "dat record 3: sample number 4294967295"
+    ∷ codes "dat record 5: channel 1 missing"
+    ∷ codes "dat: 1 bytes after the last record"
+    ∷ codes "read failed (1)"
+    ∷ codes "write failed (2)"
+    ∷ codes "out of memory"
+    ∷ codes "file 2: not found" ∷ [] ∷ []
 unfolding sentence_of digits
 sentences = refl
 
 pub exit_codes : map code_of
-    (status.Done ∷ status.Usage ∷ status.CfgFault 2 0 ∷ status.Unsupported unsupported.NotYet 0 ∷ status.Limit
-        quantity.DatBytes 0 ∷ status.Selection 0 ∷ status.DatFault (fault.Long 1) ∷ status.ReadFault 1 ∷
-        status.WriteFault 1 ∷ status.OutOfMemory ∷ status.NoFile 1 ∷ [])
+    (status.Done ∷ status.Usage ∷ status.CfgFault 2 0 ∷ status.Unsupported unsupported.Revision 0 ∷ status.Limit
+    quantity.DatBytes 0 ∷ status.Selection 0 ∷ status.DatFault (fault.Long 1) ∷ status.ReadFault 1 ∷
+    status.WriteFault 1 ∷ status.OutOfMemory ∷ status.NoFile 1 ∷ [])
     ≡ 0 ∷ 1 ∷ 2 ∷ 3 ∷ 4 ∷ 5 ∷ 7 ∷ 8 ∷ 9 ∷ 11 ∷ 14 ∷ []
 exit_codes = refl

@@ -1,33 +1,33 @@
 -- Worked verdicts: refusals in their order, and jobs.
-use Rattle.std.proofs.Common.{◌≡◌, List, [], ◌∷◌, ◌++◌, map, replicate, refl, Option, None, Some}
+use Rattle.std.proofs.Common.{◌≡◌, ℕ, List, [], ◌∷◌, ◌++◌, map, take, replicate, refl, Option, None, Some}
 use Rattle.std.specs.Fmt.{digits}
 use Rattle.std.specs.Prelude.{codes, slice_set}
 use Rattle.comtrade_cfg.proofs.TwoIntervalsCfg.{with_line_ends}
-use Rattle.comtrade_cfg.specs.CfgText.{analogue_fields, channel_lines, configuration_ahead, configuration_of, station_fields, status_fields}
+use Rattle.comtrade_cfg.specs.CfgText.{analogue_fields, channel_lines, configuration_ahead, configuration_of, lines_behind, station_fields, status_fields}
 use Rattle.cfg_fields.specs.Fields.{channel_count, decimal_field, decimal_text, frequency_field, leap_field, number_field, position_field, rate_field, samples_field, text_field}
 use Rattle.comtrade_cfg.specs.Selecting.{selected_of}
 use Rattle.cfg_fields.specs.declared.fault.Quantity.TheVariants as quantity
-use Rattle.cfg_fields.specs.declared.fault.Unsupported.TheVariants as unsupported
+use Rattle.comtrade_dat.specs.Samples.{samples_of}
+use Rattle.comtrade_dat.specs.declared.dat_fault.DatFault.TheVariants as fault
 use Rattle.event_detect.specs.VoltageEvent.{event_from, events, extents}
 use Rattle.half_cycle.specs.HalfCycleWindow.{windows, windows_over}
 use Rattle.jiff_core.specs.Calendar.{day_count, days_from_civil, days_of_months, days_of_years}
 use Rattle.pq_base.specs.Decimal.{decimal_of}
 use Rattle.pq_base.specs.Outside.{Files}
-use Rattle.pq_run.specs.Commands.{still_course}
-use Rattle.pq_run.specs.Intervals.{measured_of}
+use Rattle.pq_run.specs.Commands.{course_of_task, task_of}
+use Rattle.pq_run.specs.Intervals.{selected_configuration}
 use Rattle.pq_run.specs.ReportText.{header, report_text}
-use Rattle.pq_run.specs.Samples.{judged_records, samples_of}
-use Rattle.pq_run.specs.Verdict.{Job, Refused, verdict}
-use Rattle.pq_run.specs.Words.{check_words, intervals_words}
-use Rattle.pq_run.specs.declared.dat_fault.DatFault.TheVariants as fault
+use Rattle.pq_run.specs.Verdict.{AsksAll, AsksFront, Course, Job, Refused, verdict}
+use Rattle.pq_run.specs.declared.status.Status.{Status}
 use Rattle.pq_run.specs.declared.status.Status.TheVariants as status
 use Rattle.pq_sequence.specs.BasicInterval.{basic_runs, front_of, fronts}
-use Rattle.pq_sequence.specs.MeasuredRecording.{all_events, tick_places}
+use Rattle.polyphase.specs.PolyphaseEvent.{all_polyphase_events, begins, conditions, ends, latest, merged_windows}
+use Rattle.pq_sequence.specs.MeasuredRecording.{tick_places}
 use Rattle.pq_sequence.specs.SequentialResult.{items_under, sequential}
 use Rattle.pq_time.specs.Moment.{written_moment}
 use Rattle.pq_time.specs.Tick.{ticks}
 use Rattle.pq_time.specs.Time.{place_of, time_of}
-use Rattle.pq_time.specs.Written.{date_of, time_of as clock_time_of}
+use Rattle.pq_time.specs.Written.{clock_time_of, date_of}
 use Rattle.pq_words.specs.First.{first_between, first_of}
 use Rattle.pq_words.specs.Sorted.{in_order}
 use Rattle.pq_words.specs.Steps.{numbers_from, steps_from}
@@ -40,8 +40,8 @@ use Rattle.zero_cross.specs.Boundary.{boundaries, cycle_boundaries, first_bounda
 abbrev cfg_with : Text → List Text → Text → Text
 cfg_with counts channels sampling =
     with_line_ends (codes "demo,pqa,1999" ∷ counts ∷ channels
-        ++ codes "50" ∷ codes "1" ∷ sampling ∷ codes "01/03/2024,12:00:01.000000" ∷ codes
-        "01/03/2024,12:00:01.000000" ∷ codes "BINARY" ∷ codes "1" ∷ [])
+    ++ codes "50" ∷ codes "1" ∷ sampling ∷ codes "01/03/2024,12:00:01.000000" ∷ codes
+    "01/03/2024,12:00:01.000000" ∷ codes "BINARY" ∷ codes "1" ∷ [])
 
 -- an analogue channel line of this unit and coefficient
 abbrev channel : Text → Text → Text
@@ -54,78 +54,144 @@ one_channel unit a sampling = cfg_with (codes "1,1A,0D") (channel unit a ∷ [])
 abbrev worked_cfg : Text → Text
 worked_cfg n = one_channel (codes "V") (codes "0.0325") (codes "1200," ++ n)
 
+-- the course of words
+abbrev course_of_words : List Text → Course Status
+course_of_words words = course_of_task (task_of words)
+
 abbrev words : List Text
 words = codes "intervals" ∷ codes "--udin" ∷ codes "230000" ∷ codes "a.cfg" ∷ codes "a.dat" ∷ []
 
 abbrev files_with : Text → Text → Option Files
 files_with cfg dat = Some ((codes "a.cfg", cfg) ∷ (codes "a.dat", dat) ∷ [])
 
--- the refusals of the dat, and of files that are not there
-pub dat_verdicts : map (verdict (still_course words))
-    (files_with (worked_cfg (codes "3")) (replicate 29 0) ∷ files_with (worked_cfg (codes "3"))
-        (replicate 31 0) ∷ files_with (worked_cfg (codes "3")) (slice_set (replicate 31 0) 19 0x80)
+-- a record of this number, with count 0, and three that follow one another
+abbrev dat_record : ℕ → Text
+dat_record n = n ∷ replicate 9 0
+
+abbrev three_records : Text
+three_records = dat_record 7 ++ dat_record 8 ++ dat_record 9
+
+-- the refusals of the dat, and of files that are not there: a byte less, a byte more, a missing count before
+-- a byte more, a sample number before a missing count
+pub dat_verdicts : map (verdict (course_of_words words))
+    (files_with (worked_cfg (codes "3")) (take 29 three_records)
+    ∷ files_with (worked_cfg (codes "3")) (three_records ++ 0 ∷ [])
+    ∷ files_with (worked_cfg (codes "3")) (slice_set (three_records ++ 0 ∷ []) 19 0x80)
+    ∷ files_with (worked_cfg (codes "3")) (slice_set (dat_record 7 ++ dat_record 9 ++ dat_record 10) 19 0x80)
     ∷ Some [] ∷ Some ((codes "a.cfg", worked_cfg (codes "3")) ∷ []) ∷ None ∷ [])
-    ≡ Some (Refused (status.DatFault (fault.Short 3))) ∷ Some (Refused (status.DatFault (fault.Long 1))) ∷
-        Some (Refused (status.DatFault (fault.Missing 2 1)))
+    ≡ Some (Refused (status.DatFault (fault.Short 3))) ∷ Some (Refused (status.DatFault (fault.Long 1)))
+    ∷ Some (Refused (status.DatFault (fault.Missing 2 1)))
+    ∷ Some (Refused (status.DatFault (fault.Number 2 9)))
     ∷ Some (Refused (status.NoFile 1)) ∷ Some (Refused (status.NoFile 2)) ∷ None ∷ []
-unfolding check_words intervals_words measured_of selected_of samples_of judged_records digits text_field
+unfolding task_of selected_configuration selected_of samples_of digits text_field
     number_field position_field decimal_text decimal_field channel_count frequency_field rate_field
     samples_field leap_field station_fields analogue_fields status_fields configuration_of configuration_ahead
-    channel_lines decimal_of written_moment date_of clock_time_of days_from_civil day_count days_of_years
+    lines_behind channel_lines decimal_of written_moment date_of clock_time_of days_from_civil day_count days_of_years
     days_of_months
 dat_verdicts = refl
 
--- the refusals of the cfg, with no dat: the coefficient and the rate at their limits, a current, two
--- channels, a state, and a fault after its numbers of channels
-pub cfg_verdicts : map (λ cfg. verdict (still_course words) (Some ((codes "a.cfg", cfg) ∷ [])))
-    (one_channel (codes "V") (codes "305.2") (codes "1200,3") ∷ one_channel (codes "V") (codes "305.1")
-        (codes "1200,3") ∷ one_channel (codes "V") (codes "0.0325") (codes "800,3")
-    ∷ one_channel (codes "V") (codes "0.0325") (codes "799.999999,3") ∷ one_channel (codes "A")
-        (codes "305.2") (codes "1200,3")
-    ∷ cfg_with (codes "2,1A,1D") (channel (codes "A") (codes "1") ∷ codes "1,,,,0" ∷ []) (codes "1200,3") ∷
-        cfg_with (codes "2,1A,1D") (channel (codes "V") (codes "1") ∷ codes "1,,,,0" ∷ []) (codes "1200,x") ∷
-        cfg_with (codes "0,0A,0D") [] (codes "1200,3") ∷ [])
-    ≡ Some (Refused (status.Limit quantity.Value 3)) ∷ Some (Refused (status.NoFile 2)) ∷ Some
-        (Refused (status.NoFile 2))
-    ∷ Some (Refused (status.Limit quantity.Rate 6)) ∷ Some (Refused (status.Selection 0))
-    ∷ Some (Refused (status.Unsupported unsupported.NotYet 2)) ∷ Some (Refused (status.CfgFault 7 2)) ∷ Some
-        (Refused (status.Unsupported unsupported.NotYet 2)) ∷ []
-unfolding check_words intervals_words measured_of selected_of samples_of judged_records digits text_field
+-- two channels of these units and coefficients
+abbrev two_channels : Text → Text → Text → Text → Text
+two_channels unit a other_unit other_a = cfg_with (codes "2,2A,0D")
+    (channel unit a ∷ (codes "2,UB,B,," ++ other_unit ++ codes "," ++ other_a
+    ++ codes ",0,0,-32767,32767,1,1,P") ∷ []) (codes "1200,3")
+
+-- the refusals of the cfg, with no dat: the coefficient and the rate at their limits, a current, a fault
+-- after its numbers of channels, a voltage beside a state or a current, two voltages, of which one may be past the
+-- limit, and no channel
+pub cfg_verdicts : map (λ cfg. verdict (course_of_words words) (Some ((codes "a.cfg", cfg) ∷ [])))
+    (one_channel (codes "V") (codes "305.2") (codes "1200,3")
+    ∷ one_channel (codes "V") (codes "305.1") (codes "1200,3")
+    ∷ one_channel (codes "V") (codes "0.0325") (codes "800,3")
+    ∷ one_channel (codes "V") (codes "0.0325") (codes "799.999999,3")
+    ∷ one_channel (codes "A") (codes "305.2") (codes "1200,3")
+    ∷ cfg_with (codes "2,1A,1D") (channel (codes "V") (codes "1") ∷ codes "1,,,,0" ∷ []) (codes "1200,x")
+    ∷ cfg_with (codes "2,1A,1D") (channel (codes "V") (codes "1") ∷ codes "1,,,,0" ∷ []) (codes "1200,3")
+    ∷ two_channels (codes "V") (codes "1") (codes "A") (codes "1")
+    ∷ two_channels (codes "V") (codes "1") (codes "kV") (codes "0.001")
+    ∷ two_channels (codes "V") (codes "1") (codes "V") (codes "305.2")
+    ∷ cfg_with (codes "0,0A,0D") [] (codes "1200,3") ∷ [])
+    ≡ Some (Refused (status.Limit quantity.Value 3))
+    ∷ Some (Refused (status.NoFile 2))
+    ∷ Some (Refused (status.NoFile 2))
+    ∷ Some (Refused (status.Limit quantity.Rate 6))
+    ∷ Some (Refused (status.Selection 0))
+    ∷ Some (Refused (status.CfgFault 7 2))
+    ∷ Some (Refused (status.NoFile 2))
+    ∷ Some (Refused (status.NoFile 2))
+    ∷ Some (Refused (status.NoFile 2))
+    ∷ Some (Refused (status.Limit quantity.Value 4))
+    ∷ Some (Refused (status.Selection 0)) ∷ []
+unfolding task_of selected_configuration selected_of samples_of digits text_field
     number_field position_field decimal_text decimal_field channel_count frequency_field rate_field
     samples_field leap_field station_fields analogue_fields status_fields configuration_of configuration_ahead
-    channel_lines decimal_of written_moment date_of clock_time_of days_from_civil day_count days_of_years
+    lines_behind channel_lines decimal_of written_moment date_of clock_time_of days_from_civil day_count days_of_years
     days_of_months
 cfg_verdicts = refl
 
 -- a cfg of no sample and an empty dat are a job: the header alone
-pub empty_recording : verdict (still_course words) (files_with (worked_cfg (codes "0")) [])
+pub empty_recording : verdict (course_of_words words) (files_with (worked_cfg (codes "0")) [])
     ≡ Some (Job (codes "kind,channel,start,end,from,to,tick,value,count,mark\n"))
-unfolding check_words intervals_words measured_of selected_of samples_of judged_records digits text_field
+unfolding task_of selected_configuration selected_of samples_of digits text_field
     number_field position_field decimal_text decimal_field channel_count frequency_field rate_field
     samples_field leap_field station_fields analogue_fields status_fields configuration_of configuration_ahead
-    channel_lines decimal_of written_moment date_of clock_time_of days_from_civil day_count days_of_years
-    days_of_months report_text header sequential in_order items_under all_events events extents event_from
+    lines_behind channel_lines decimal_of written_moment date_of clock_time_of days_from_civil day_count days_of_years
+    days_of_months report_text header sequential in_order items_under all_polyphase_events merged_windows
+    conditions begins ends latest events extents event_from
     successors windows windows_over tick_places ticks place_of time_of fronts front_of basic_runs runs
     cycle_boundaries boundaries first_boundary rule_of first_between first_of numbers_from steps_from
 empty_recording = refl
 
 -- no file is needed for words that are not understood
-pub usage : map (λ w. verdict (still_course w) None)
+pub usage : map (λ w. verdict (course_of_words w) None)
     ((codes "intervals" ∷ codes "a.cfg" ∷ codes "a.dat" ∷ []) ∷
-        (codes "intervals" ∷ codes "--udin" ∷ codes "0" ∷ codes "a.cfg" ∷ codes "a.dat" ∷ [])
+    (codes "intervals" ∷ codes "--udin" ∷ codes "0" ∷ codes "a.cfg" ∷ codes "a.dat" ∷ [])
     ∷ (codes "intervals" ∷ codes "--udin" ∷ codes "1000000001" ∷ codes "a.cfg" ∷ codes "a.dat" ∷ []) ∷
-        (codes "intervals" ∷ codes "--udin" ∷ codes "+5" ∷ codes "a.cfg" ∷ codes "a.dat" ∷ [])
+    (codes "intervals" ∷ codes "--udin" ∷ codes "+5" ∷ codes "a.cfg" ∷ codes "a.dat" ∷ [])
     ∷ (codes "interval" ∷ codes "--udin" ∷ codes "1" ∷ codes "a.cfg" ∷ codes "a.dat" ∷ []) ∷
-        (codes "check" ∷ []) ∷ (codes "check" ∷ codes "a.cfg" ∷ codes "a.dat" ∷ []) ∷ [] ∷ [])
+    (codes "check" ∷ []) ∷ (codes "check" ∷ codes "a.cfg" ∷ codes "a.dat" ∷ []) ∷ [] ∷ [])
     ≡ replicate 8 (Some (Refused status.Usage))
-unfolding check_words intervals_words
+unfolding task_of
 usage = refl
 
 -- the refusals of `check`: no such file, no line, line 2 with two fields
-pub check_verdicts : map (λ f. verdict (still_course (codes "check" ∷ codes "a.cfg" ∷ [])) f)
+pub check_verdicts : map (λ f. verdict (course_of_words (codes "check" ∷ codes "a.cfg" ∷ [])) f)
     (Some [] ∷ Some ((codes "a.cfg", []) ∷ []) ∷ Some ((codes "a.cfg", codes "demo,pqa,1999\n1,1A\n") ∷ []) ∷
-        None ∷ [])
+    None ∷ [])
     ≡ Some (Refused (status.NoFile 1)) ∷ Some (Refused (status.CfgFault 1 0)) ∷ Some
-        (Refused (status.CfgFault 2 0)) ∷ None ∷ []
-unfolding check_words configuration_of configuration_ahead station_fields text_field number_field
+    (Refused (status.CfgFault 2 0)) ∷ None ∷ []
+unfolding task_of configuration_of configuration_ahead lines_behind station_fields text_field number_field
 check_verdicts = refl
+
+-- ---- names
+
+-- where the cfg is good, it and the dat are asked for, and nothing else
+pub names_of_both : AsksAll (course_of_words words)
+    (Some ((codes "a.cfg", worked_cfg (codes "3")) ∷ [])) (codes "a.cfg" ∷ codes "a.dat" ∷ [])
+unfolding task_of selected_configuration selected_of samples_of digits text_field
+    number_field position_field decimal_text decimal_field channel_count frequency_field rate_field
+    samples_field leap_field station_fields analogue_fields status_fields configuration_of configuration_ahead
+    lines_behind channel_lines decimal_of written_moment date_of clock_time_of days_from_civil day_count days_of_years
+    days_of_months
+names_of_both =
+    (Some (worked_cfg (codes "3")), codes "a.dat" ∷ [], refl, refl, (None, [], refl, refl, refl))
+
+-- where it isn't there, nothing but the cfg
+pub names_without_cfg : AsksAll (course_of_words words) (Some []) (codes "a.cfg" ∷ [])
+unfolding task_of
+names_without_cfg = (None, [], refl, refl, refl)
+
+-- no other name comes first, and the cfg's doesn't come twice
+pub no_name_of_its_own : AsksFront (course_of_words words) (Some []) (codes "a" ∷ []) → ⊥
+unfolding task_of
+no_name_of_its_own (later, (found, rest, here, same, asked)) = cc
+
+pub no_name_twice : AsksFront (course_of_words words) (Some []) (codes "a.cfg" ∷ codes "a.cfg" ∷ []) → ⊥
+unfolding task_of
+no_name_twice (later, (None, rest, here, same, asked)) = cc
+no_name_twice (later, (Some bytes, rest, here, same, asked)) = cc
+
+-- words that are not understood ask for nothing
+pub no_names : AsksAll (course_of_words (codes "check" ∷ [])) None []
+unfolding task_of
+no_names = refl

@@ -1,11 +1,12 @@
-pub mod BinaryRecord
 pub mod Check
 pub mod Commands
+pub mod InputFile
 pub mod Intervals
+pub mod Parts
+pub mod Program
+pub mod Refusals
 pub mod ReportText
-pub mod Samples
 pub mod Settings
 pub mod StatusText
 pub mod TopCall
 pub mod Verdict
-pub mod Words

@@ -1,10 +1,12 @@
 -- The subject: the text of the report. All of it is profile.
-use Rattle.std.specs.Prelude.{ℕ, Bool, true, false, [], ◌++◌, List, ℤ, Option, Some, None, codes, decimal}
+use Rattle.std.specs.Prelude.{◌≡◌, ℕ, Bool, true, false, if◌then◌else◌, [], ◌++◌, List, ℤ, Option, Result, OnOk, codes, decimal}
 use Rattle.std.specs.List.{flat_map}
 use Rattle.std.specs.Option.{option_map_or}
+use Rattle.std.specs.declared.alloc.Global.{Global}
+use Rattle.std.specs.declared.vec.Vec.{Vec}
 use Rattle.event_detect.specs.declared.limits.Limits.{Limits}
 use Rattle.pq_base.specs.Recorded.{Recorded}
-use Rattle.pq_items.specs.ItemOrder.{details_of, item_end, key_of}
+use Rattle.pq_items.specs.ItemTable.{channel_of, start_of, end_of, tick_of, value_of, count_of, has_mark}
 use Rattle.pq_items.specs.declared.item.Item.{Item}
 use Rattle.pq_items.specs.declared.item.Item.TheVariants as item
 use Rattle.pq_sequence.specs.MeasuredRecording.{clock_of}
@@ -30,17 +32,6 @@ kind_of (item.Dip channel start end value is_open) = codes "dip"
 kind_of (item.Swell channel start end value is_open) = codes "swell"
 kind_of (item.Interruption channel start end value is_open) = codes "interruption"
 
--- how many cycles, intervals or records it is made of; 0 for an event
-abbrev pub count_of : Item → ℕ
-count_of (item.Frequency tick start end cycles microhertz flagged) = cycles
-count_of (item.Basic channel start end cycles value flagged) = cycles
-count_of (item.Short channel start end value flagged) = 15
-count_of (item.Ten channel tick start end basics value flagged) = basics
-count_of (item.TwoHour channel tick start end value flagged) = 12
-count_of (item.Dip channel start end value is_open) = 0
-count_of (item.Swell channel start end value is_open) = 0
-count_of (item.Interruption channel start end value is_open) = 0
-
 -- a record is flagged or clear, an event is open or closed
 abbrev pub flag_word : Bool → Text
 flag_word true = codes "flagged"
@@ -50,15 +41,14 @@ abbrev pub open_word : Bool → Text
 open_word true = codes "open"
 open_word false = codes "closed"
 
+abbrev pub is_event : Item → Bool
+is_event (item.Dip channel start end value is_open) = true
+is_event (item.Swell channel start end value is_open) = true
+is_event (item.Interruption channel start end value is_open) = true
+is_event _ = false
+
 abbrev pub mark_of : Item → Text
-mark_of (item.Frequency tick start end cycles microhertz flagged) = flag_word flagged
-mark_of (item.Basic channel start end cycles value flagged) = flag_word flagged
-mark_of (item.Short channel start end value flagged) = flag_word flagged
-mark_of (item.Ten channel tick start end basics value flagged) = flag_word flagged
-mark_of (item.TwoHour channel tick start end value flagged) = flag_word flagged
-mark_of (item.Dip channel start end value is_open) = open_word is_open
-mark_of (item.Swell channel start end value is_open) = open_word is_open
-mark_of (item.Interruption channel start end value is_open) = open_word is_open
+mark_of i = if is_event i then open_word (has_mark i) else flag_word (has_mark i)
 
 -- the first fields of a row: kind, channel and span
 abbrev pub span_fields : Text → ℕ → ℕ → ℕ → Text
@@ -73,17 +63,6 @@ value_fields value count mark = decimal value ++ codes "," ++ decimal count ++ c
 abbrev pub place_text : Clock → ℕ → Text
 place_text clock place = printed_moment (time_of clock place)
 
--- the tick of a frequency reading, of a ten-minute or a two-hour record, a UTC second; the others have none
-abbrev pub tick_of : Item → Option ℤ
-tick_of (item.Frequency tick start end cycles microhertz flagged) = Some tick
-tick_of (item.Basic channel start end cycles value flagged) = None
-tick_of (item.Short channel start end value flagged) = None
-tick_of (item.Ten channel tick start end basics value flagged) = Some tick
-tick_of (item.TwoHour channel tick start end value flagged) = Some tick
-tick_of (item.Dip channel start end value is_open) = None
-tick_of (item.Swell channel start end value is_open) = None
-tick_of (item.Interruption channel start end value is_open) = None
-
 -- the moment of a tick; empty where there is none
 abbrev pub tick_text : Option ℤ → Text
 tick_text tick = option_map_or (λ second. printed_moment (moment_of second)) tick []
@@ -96,9 +75,9 @@ moment_fields clock start end tick = place_text clock start ++ codes "," ++ plac
 -- the row of an item
 unfoldable pub item_row : Clock → Item → Text
 item_row clock i =
-    span_fields (kind_of i) (key_of i).channel (key_of i).start (item_end i)
-    ++ moment_fields clock (key_of i).start (item_end i) (tick_of i)
-        ++ value_fields (details_of i).value (count_of i) (mark_of i)
+    span_fields (kind_of i) (channel_of i) (start_of i) (end_of i)
+    ++ moment_fields clock (start_of i) (end_of i) (tick_of i)
+    ++ value_fields (value_of i) (count_of i) (mark_of i)
 
 -- the header, and a row for each item
 abbrev pub rows_text : Clock → List Item → Text
@@ -107,3 +86,7 @@ rows_text clock items = header ++ flat_map (item_row clock) items
 -- the report of a recording under limits: its sequential result as rows
 unfoldable pub report_text : Recorded → Limits → Text
 report_text r limits = rows_text (clock_of r) (sequential r limits)
+
+-- a part of a text was pushed, or there was no memory for it
+abbrev pub Pushes : {E : Type 0} → Result (Unit {0}) E → Vec ℕ Global → Vec ℕ Global → Text → Type 0
+Pushes result old new part = OnOk result (new.items ≡ old.items ++ part)

@@ -1,5 +1,5 @@
 -- The order of refusals as a course: what is judged before each file, and what with its bytes (profile).
-use Rattle.std.specs.Prelude.{◌≡◌, ℕ, ◌⊎◌, nat_le, if◌then◌else◌, length, Option, Some, None}
+use Rattle.std.specs.Prelude.{◌≡◌, ℕ, nat_le, if◌then◌else◌, List, [], ◌∷◌, ◌++◌, length, Option, Some, None, ⊤}
 use Rattle.pq_words.specs.Text.{Text}
 use Rattle.pq_base.specs.Outside.{Files, file_named}
 
@@ -20,30 +20,26 @@ verdict (Ends outcome) files = Some outcome
 verdict (Asks name go) None = None
 verdict (Asks name go) (Some files) = verdict (go (file_named files name)) (Some files)
 
--- the words name a file, and nothing is refused before its reading
-abbrev pub AsksFirst : {S : Type 0} → Course S → Type 0
-AsksFirst (Ends outcome) = ⊥
-AsksFirst (Asks name go) = Unit {0}
+-- what is found under a name: what the told files have there, and anything where they aren't told
+abbrev pub Finds : Option Files → Text → Option Text → Type 0
+Finds None name found = ⊤
+Finds (Some files) name found = file_named files name ≡ found
 
--- over these files the course asks for this name: it is one of the words, and no refusal stands before its
--- reading
-abbrev pub Reaches : {S : Type 0} → Course S → Files → Text → Type 0
-Reaches (Ends outcome) files name = ⊥
-Reaches (Asks asked go) files name = (asked ≡ name) ⊎ Reaches (go (file_named files asked)) files name
+-- over these files the course asks for these names, one after another, and then it ends
+abbrev pub AsksAll : {S : Type 0} → Course S → Option Files → List Text → Type 0
+AsksAll (Ends outcome) files names = names ≡ []
+AsksAll (Asks name go) files names =
+    (found : Option Text) × (later : List Text)
+    × Finds files name found × (names ≡ name ∷ later) × AsksAll (go found) files later
 
--- over some files it does
-abbrev pub MayReach : {S : Type 0} → Course S → Text → Type 0
-MayReach (Ends outcome) name = ⊥
-MayReach (Asks asked go) name = (asked ≡ name) ⊎ ((found : Option Text) × MayReach (go found) name)
-
--- the same of files that are told or not
-abbrev pub ReachesTold : {S : Type 0} → Course S → Option Files → Text → Type 0
-ReachesTold course None name = MayReach course name
-ReachesTold course (Some files) name = Reaches course files name
+-- over these files the course asks for these names first, and maybe for later ones. So each of them is one of
+-- its words, and no refusal stands before the reading of it
+abbrev pub AsksFront : {S : Type 0} → Course S → Option Files → List Text → Type 0
+AsksFront course files names = (later : List Text) × AsksAll course files (names ++ later)
 
 -- a file that is missing is refused, one of more bytes than its limit too, and else the course goes on with
 -- its bytes
 abbrev pub with_file : {S : Type 0} → S → S → ℕ → (Text → Course S) → Option Text → Course S
 with_file missing over limit go None = Ends (Refused missing)
-with_file missing over limit go (Some bytes) = if nat_le (length bytes) limit then go bytes else Ends
-    (Refused over)
+with_file missing over limit go (Some bytes) =
+    if nat_le (length bytes) limit then go bytes else Ends (Refused over)

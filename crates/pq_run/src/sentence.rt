@@ -1,145 +1,241 @@
-// The sentence of a status.
-ghost use Rattle.std.specs.Prelude.{◌≡◌, ◌++◌, IfOk, string_bytes, codes, decimal};
-ghost use Rattle.pq_run.specs.StatusText.{dat_fault_text, field_text, limit_place, quantity_text, selection_text, sentence_of, unsupported_text};
+// The sentence of a status. It is in pieces, so that it can be told where memory ran out.
+ghost use Rattle.std.specs.Prelude.{◌≡◌, ◌++◌, IfOk, OnOk, codes, decimal};
+ghost use Rattle.std.specs.List.{flat_map};
+ghost use Rattle.pq_run.specs.Program.{IsTold, line_of};
+ghost use Rattle.pq_run.specs.ReportText.{Pushes};
+ghost use Rattle.pq_run.specs.StatusText.{cfg_text, dat_fault_text, limit_text, number_text, quantity_word, selection_text, sentence_of, sentence_view, twice_numbered, unsupported_text, unsupported_word};
+ghost use Rattle.pq_run.specs.TopCall.{writing_of};
 
-use crate::dat_fault::DatFault;
 use crate::status::Status;
 use comtrade_cfg::{Quantity, Unsupported};
-use pq_base::{OutOfMemory, Text};
+use comtrade_dat::DatFault;
+use itoa::Buffer;
+use pq_base::{Failed, OutOfMemory, Sink, Text, write_all};
 use std::alloc::{AllocError, Global};
 
 /// The sentence of a status, without a line end; empty where all is done.
 pub fn fault_text(alloc: Global, status: &Status) -> Result<Text, OutOfMemory>
     ensures { IfOk result (λ text. text ≡ sentence_of status.now) }
 {
-    match sentence(alloc, status) {
-        Ok(sentence) => Ok(Text::new(sentence.into_bytes())),
-        Err(AllocError) => Err(OutOfMemory),
+    let sentence = Sentence::of(status);
+    let mut text = Vec::new(alloc);
+    text.extend_from_slice(sentence.opening.as_bytes())?;
+    push_number(&mut text, sentence.first)?;
+    text.extend_from_slice(sentence.middle.as_bytes())?;
+    push_number(&mut text, sentence.second)?;
+    text.extend_from_slice(sentence.closing.as_bytes())?;
+    Ok(Text::new(text))
+}
+
+/// Tells the sentence of a status that isn't Done, and a line end. It takes no memory; where a write fails,
+/// the rest is left out.
+pub fn tell<E: Sink>(status: &Status, err: &mut E)
+    ensures { IsTold (line_of status.now) (writing_of E.Sink err.old err.new) }
+{
+    if matches!(status, Status::Done) {
+        return;
+    }
+    let sentence = Sentence::of(status);
+    let mut first = Buffer::new();
+    let mut second = Buffer::new();
+    let pieces = [
+        sentence.opening,
+        digits(&mut first, sentence.first),
+        sentence.middle,
+        digits(&mut second, sentence.second),
+        sentence.closing,
+        "\n",
+    ];
+    tell_pieces(&pieces, err);
+}
+
+// Tells pieces, one after another, up to one that is not taken.
+fn tell_pieces<E: Sink>(pieces: &[&str], err: &mut E)
+    ensures { IsTold (flat_map (λ p. p.now) pieces.now) (writing_of E.Sink err.old err.new) }
+{
+    for piece in pieces {
+        if let Err(Failed) = write_all(err, piece.as_bytes()) {
+            return;
+        }
     }
 }
 
-#[tactic(auto, unfolding(crate::specs::StatusText::sentence_of))]
-fn sentence(alloc: Global, status: &Status) -> Result<String, AllocError>
-    ensures { IfOk result (λ text. string_bytes text ≡ sentence_of status.now) }
+// The digits of a number; nothing where there is none.
+fn digits<'a>(buffer: &'a mut Buffer, number: Option<u64>) -> &'a str
+    ensures { result.now ≡ number_text number }
 {
-    match status {
-        Status::Done => Ok(String::new(alloc)),
-        Status::Usage => String::from_str(alloc, "usage: words not understood"),
-        Status::CfgFault { line, field } => cfg_sentence(alloc, *line, *field),
-        Status::Unsupported { what, line } => unsupported_sentence(
-            alloc,
-            *line,
-            unsupported_name(*what),
-        ),
-        Status::Limit { what, line } => limit_sentence(alloc, *line, quantity_name(*what)),
-        Status::Selection { channel } => selection_sentence(alloc, *channel),
-        Status::DatFault { kind } => dat_sentence(alloc, *kind),
-        Status::ReadFault { faults } => format!(in alloc; "read failed ({faults})"),
-        Status::WriteFault { faults } => format!(in alloc; "write failed ({faults})"),
-        Status::OutOfMemory => String::from_str(alloc, "out of memory"),
-        Status::NoFile { file } => file_sentence(alloc, *file),
+    match number {
+        Some(number) => buffer.format(number),
+        None => "",
     }
 }
 
-fn file_sentence(alloc: Global, file: u32) -> Result<String, AllocError>
-    ensures { IfOk result (λ text. string_bytes text ≡ codes "file " ++ (decimal file ++ codes ": not found")) }
+fn push_number(text: &mut Vec<u8>, number: Option<u64>) -> Result<(), AllocError>
+    ensures { Pushes result text.old text.new (number_text number) }
 {
-    format!(in alloc; "file {file}: not found")
+    let mut buffer = Buffer::new();
+    text.extend_from_slice(digits(&mut buffer, number).as_bytes())
 }
 
-fn cfg_sentence(alloc: Global, line: u32, field: u32) -> Result<String, AllocError>
-    ensures { IfOk result (λ text. string_bytes text ≡ codes "cfg line " ++ (decimal line ++ field_text field)) }
+// A sentence: texts, and numbers between them.
+#[derive(Clone, Copy)]
+struct Sentence {
+    opening: &'static str,
+    first: Option<u64>,
+    middle: &'static str,
+    second: Option<u64>,
+    closing: &'static str,
+}
+
+impl Sentence {
+    ghost use Rattle.std.specs.Prelude.{◌≡◌};
+    ghost use Rattle.pq_run.specs.StatusText.{sentence_of, sentence_view};
+
+    // The sentence of a status.
+    #[tactic(auto, unfolding(crate::specs::StatusText::sentence_of))]
+    fn of(status: &Status) -> Sentence
+        ensures { sentence_view result ≡ sentence_of status.now }
+    {
+        match *status {
+            Status::Done => plain("", ""),
+            Status::Usage => plain("usage: words not understood", ""),
+            Status::CfgFault { line, field } => cfg_sentence(line, field),
+            Status::Unsupported { what, line } => unsupported_sentence(
+                line,
+                unsupported_word(what),
+            ),
+            Status::Limit { what, line } => limit_sentence(line, quantity_word(what)),
+            Status::Selection { channel } => selection_sentence(channel),
+            Status::DatFault { kind } => dat_sentence(kind),
+            Status::ReadFault { faults } => numbered("read failed (", faults, ")", ""),
+            Status::WriteFault { faults } => numbered("write failed (", faults, ")", ""),
+            Status::OutOfMemory => plain("out of memory", ""),
+            Status::NoFile { file } => file_sentence(file),
+        }
+    }
+}
+
+fn plain(opening: &'static str, closing: &'static str) -> Sentence
+    ensures { sentence_view result ≡ opening.now ++ closing.now }
 {
+    Sentence {
+        opening,
+        first: None,
+        middle: "",
+        second: None,
+        closing,
+    }
+}
+
+fn numbered(
+    opening: &'static str,
+    first: u64,
+    middle: &'static str,
+    closing: &'static str,
+) -> Sentence
+    ensures { sentence_view result ≡ opening.now ++ (decimal first ++ (middle.now ++ closing.now)) }
+{
+    Sentence {
+        opening,
+        first: Some(first),
+        middle,
+        second: None,
+        closing,
+    }
+}
+
+fn twice_numbered(
+    opening: &'static str,
+    first: u64,
+    middle: &'static str,
+    second: u64,
+    closing: &'static str,
+) -> Sentence
+    ensures { sentence_view result ≡ twice_numbered opening.now first middle.now second closing.now }
+{
+    Sentence {
+        opening,
+        first: Some(first),
+        middle,
+        second: Some(second),
+        closing,
+    }
+}
+
+fn cfg_sentence(line: u32, field: u32) -> Sentence
+    ensures { sentence_view result ≡ cfg_text line field }
+{
+    let line = u64::from(line);
     if field == 0 {
-        whole_line_sentence(alloc, line)
+        let fault = ": missing, surplus or wrong number of fields";
+        numbered("cfg line ", line, fault, "")
     } else {
-        field_sentence(alloc, line, field)
+        twice_numbered(
+            "cfg line ",
+            line,
+            " field ",
+            u64::from(field),
+            ": not readable",
+        )
     }
 }
 
-fn whole_line_sentence(alloc: Global, line: u32) -> Result<String, AllocError>
-    ensures { IfOk result (λ text. string_bytes text ≡ codes "cfg line " ++ (decimal line ++ codes ": missing, surplus or wrong number of fields")) }
+fn unsupported_sentence(line: u32, what: &'static str) -> Sentence
+    ensures { sentence_view result ≡ unsupported_text line what.now }
 {
-    format!(in alloc; "cfg line {line}: missing, surplus or wrong number of fields")
+    numbered("cfg line ", u64::from(line), ": unsupported ", what)
 }
 
-fn field_sentence(alloc: Global, line: u32, field: u32) -> Result<String, AllocError>
-    ensures { IfOk result (λ text. string_bytes text ≡ codes "cfg line " ++ (decimal line ++ (codes " field " ++ (decimal field ++ codes ": not readable")))) }
+fn file_sentence(file: u32) -> Sentence
+    ensures { sentence_view result ≡ codes "file " ++ (decimal file ++ codes ": not found") }
 {
-    format!(in alloc; "cfg line {line} field {field}: not readable")
+    numbered("file ", u64::from(file), ": not found", "")
 }
 
-fn unsupported_sentence(alloc: Global, line: u32, what: &str) -> Result<String, AllocError>
-    ensures { IfOk result (λ text. string_bytes text ≡ codes "cfg line " ++ (decimal line ++ (codes ": unsupported " ++ what.now))) }
-{
-    format!(in alloc; "cfg line {line}: unsupported {what}")
-}
-
-fn limit_sentence(alloc: Global, line: u32, what: &str) -> Result<String, AllocError>
-    ensures { IfOk result (λ text. string_bytes text ≡ limit_place line ++ (codes "limit passed: " ++ what.now)) }
+fn limit_sentence(line: u32, what: &'static str) -> Sentence
+    ensures { sentence_view result ≡ limit_text line what.now }
 {
     if line == 0 {
-        whole_limit_sentence(alloc, what)
+        plain("limit passed: ", what)
     } else {
-        line_limit_sentence(alloc, line, what)
+        numbered("cfg line ", u64::from(line), ": limit passed: ", what)
     }
 }
 
-fn whole_limit_sentence(alloc: Global, what: &str) -> Result<String, AllocError>
-    ensures { IfOk result (λ text. string_bytes text ≡ codes "limit passed: " ++ what.now) }
-{
-    format!(in alloc; "limit passed: {what}")
-}
-
-fn line_limit_sentence(alloc: Global, line: u32, what: &str) -> Result<String, AllocError>
-    ensures { IfOk result (λ text. string_bytes text ≡ codes "cfg line " ++ (decimal line ++ (codes ": limit passed: " ++ what.now))) }
-{
-    format!(in alloc; "cfg line {line}: limit passed: {what}")
-}
-
-fn dat_sentence(alloc: Global, kind: DatFault) -> Result<String, AllocError>
-    ensures { IfOk result (λ text. string_bytes text ≡ dat_fault_text kind) }
-{
-    match kind {
-        DatFault::Short { at } => format!(in alloc; "dat record {at}: cut off"),
-        DatFault::Missing { at, channel } => missing_sentence(alloc, at, channel),
-        DatFault::Long { bytes } => {
-            format!(in alloc; "dat: {bytes} bytes after the last record")
-        }
-        DatFault::OutOfMemory => String::from_str(alloc, "out of memory"),
-    }
-}
-
-fn missing_sentence(alloc: Global, at: u64, channel: u32) -> Result<String, AllocError>
-    ensures { IfOk result (λ text. string_bytes text ≡ codes "dat record " ++ (decimal at ++ (codes ": channel " ++ (decimal channel ++ codes " missing")))) }
-{
-    format!(in alloc; "dat record {at}: channel {channel} missing")
-}
-
-fn selection_sentence(alloc: Global, channel: u32) -> Result<String, AllocError>
-    ensures { IfOk result (λ text. string_bytes text ≡ codes "selection: " ++ selection_text channel) }
+fn selection_sentence(channel: u32) -> Sentence
+    ensures { sentence_view result ≡ selection_text channel }
 {
     if channel == 0 {
-        no_channel_sentence(alloc)
+        plain("selection: no voltage channel", "")
     } else {
-        channel_sentence(alloc, channel)
+        numbered("selection: channel ", u64::from(channel), "", "")
     }
 }
 
-fn no_channel_sentence(alloc: Global) -> Result<String, AllocError>
-    ensures { IfOk result (λ text. string_bytes text ≡ codes "selection: no voltage channel") }
+fn dat_sentence(kind: DatFault) -> Sentence
+    ensures { sentence_view result ≡ dat_fault_text kind }
 {
-    String::from_str(alloc, "selection: no voltage channel")
+    match kind {
+        DatFault::Short { at } => numbered("dat record ", at, ": cut off", ""),
+        DatFault::Number { at, found } => {
+            twice_numbered("dat record ", at, ": sample number ", u64::from(found), "")
+        }
+        DatFault::Missing { at, channel } => {
+            twice_numbered(
+                "dat record ",
+                at,
+                ": channel ",
+                u64::from(channel),
+                " missing",
+            )
+        }
+        DatFault::Long { bytes } => numbered("dat: ", bytes, " bytes after the last record", ""),
+        DatFault::OutOfMemory => plain("out of memory", ""),
+    }
 }
 
-fn channel_sentence(alloc: Global, channel: u32) -> Result<String, AllocError>
-    ensures { IfOk result (λ text. string_bytes text ≡ codes "selection: channel " ++ decimal channel) }
-{
-    format!(in alloc; "selection: channel {channel}")
-}
-
-fn unsupported_name(what: Unsupported) -> &'static str
-    ensures { result.now ≡ unsupported_text what }
+fn unsupported_word(what: Unsupported) -> &'static str
+    ensures { result.now ≡ unsupported_word what }
 {
     match what {
         Unsupported::Revision => "revision",
@@ -147,12 +243,11 @@ fn unsupported_name(what: Unsupported) -> &'static str
         Unsupported::Rates => "rates",
         Unsupported::FileType => "file type",
         Unsupported::LeapSecond => "leap second",
-        Unsupported::NotYet => "not yet",
     }
 }
 
-fn quantity_name(what: Quantity) -> &'static str
-    ensures { result.now ≡ quantity_text what }
+fn quantity_word(what: Quantity) -> &'static str
+    ensures { result.now ≡ quantity_word what }
 {
     match what {
         Quantity::CfgBytes => "cfg bytes",

@@ -2,7 +2,7 @@
 ghost use Rattle.std.specs.Prelude.{◌≡◌};
 ghost use Rattle.event_detect.specs.Threshold.{IsInOrder};
 ghost use Rattle.pq_run.specs.Settings.{usual_limits};
-ghost use Rattle.pq_run.specs.Words.{IsVoltage};
+ghost use Rattle.pq_run.specs.Commands.{IsVoltage};
 
 use event_detect::{BadLimits, Limits, Settings};
 

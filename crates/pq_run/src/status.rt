@@ -1,6 +1,6 @@
 // What a top call answers, with its exit code.
-use crate::dat_fault::DatFault;
 use comtrade_cfg::{Quantity, Unsupported};
+use comtrade_dat::DatFault;
 
 /// The answer of a top call.
 #[derive(Clone, Copy, Debug, PartialEq, Eq)]

@@ -1,0 +1,23 @@
+//! The program with standard output in place of standard error, on a word that is not UTF-8: nothing is told.
+#![tactic(auto)]
+
+use pq_base::{FileShelf, OutSink};
+use pq_run::{Streams, run, words_of};
+use std::process::ExitCode;
+
+fn main(rt: HostRuntime) -> ExitCode {
+    let code = match words_of(&rt) {
+        Ok(words) => {
+            let out = OutSink::new(&rt);
+            let err = OutSink::new(&rt);
+            run(
+                rt.alloc(),
+                &words,
+                &mut FileShelf::new(&rt),
+                &mut Streams { out, err },
+            )
+        }
+        Err(status) => status.code(),
+    };
+    ExitCode::from(code)
+}
