@@ -1,0 +1,16 @@
+pub mod Lists
+pub mod Views
+pub mod Roles
+pub mod Parts
+pub mod TurnParts
+pub mod StopParts
+pub mod Keeps
+pub mod LaneSteps
+pub mod TurnSteps
+pub mod StopSteps
+pub mod SplitParts
+pub mod LaneMaking
+pub mod SplitSteps
+pub mod Ends
+pub mod FreshLanes
+pub mod ShownLaws
