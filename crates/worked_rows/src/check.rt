@@ -56,6 +56,11 @@ BINARY\r
 B,3\r
 ";
 
+// The cfg as it is written.
+pub fn cfg_2013(alloc: Global) -> Result<Vec<u8>, AllocError> {
+    with_32_states(alloc, FRONT, BACK)
+}
+
 fn with_32_states(alloc: Global, front: &str, back: &str) -> Result<Vec<u8>, AllocError> {
     let mut text = Vec::new(alloc);
     text.extend_from_slice(front.as_bytes())?;
@@ -71,7 +76,7 @@ fn with_32_states(alloc: Global, front: &str, back: &str) -> Result<Vec<u8>, All
 #[test]
 fn cfg_2013_with_32_states(rt: HostRuntime) -> Result<(), Fail> {
     let alloc = rt.alloc();
-    let written = with_32_states(alloc, FRONT, BACK)?;
+    let written = cfg_2013(alloc)?;
     let canonical = with_32_states(alloc, CANONICAL_FRONT, CANONICAL_BACK)?;
     for cfg in [&written, &canonical] {
         for piece in [1, 100, 1_000_000] {

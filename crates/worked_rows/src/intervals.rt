@@ -1,10 +1,10 @@
-// The command `intervals` on worked recordings, on cfgs and dats that are refused, and on shelves and sinks that fail.
+// The command `intervals` on worked recordings, on cfgs and dats that are refused, and on calls that fail.
 use crate::outside::{Outside, WHOLE, run};
 use crate::reports::{
     ALL_ZERO, AT_THRESHOLD, BELOW_THRESHOLD, HALVED, HEADER, ONE_ROW, OVER_TICK, TWO_ROWS,
 };
 use crate::signal::{Signal, WORKED, Written, cfg, dat};
-use comtrade_cfg::{Quantity, Unsupported};
+use comtrade_cfg::Quantity;
 use pq_run::{DatFault, Status};
 use std::alloc::{AllocError, Global};
 use std::test::Fail;
@@ -64,11 +64,6 @@ fn worked_recordings(rt: HostRuntime) -> Result<(), Fail> {
     Ok(())
 }
 
-const NOT_YET: Status = Status::Unsupported {
-    what: Unsupported::NotYet,
-    line: 2,
-};
-
 const VALUE: Status = Status::Limit {
     what: Quantity::Value,
     line: 3,
@@ -79,7 +74,7 @@ const RATE: Status = Status::Limit {
     line: 6,
 };
 
-// value_and_rate_limits, and cfgs of other channels, with an empty dat.
+// value_and_rate_limits, and cfgs of a current, of two channels and of a state, with an empty dat.
 #[test]
 fn cfgs_of_one_channel_and_others(rt: HostRuntime) -> Result<(), Fail> {
     let alloc = rt.alloc();
@@ -97,8 +92,10 @@ fn cfgs_of_one_channel_and_others(rt: HostRuntime) -> Result<(), Fail> {
             "1200",
             Status::Selection { channel: 0 },
         ),
-        ("2,2A,0D", "V", "305.2", "1200", NOT_YET),
-        ("2,1A,1D", "V", "0.0325", "1200", NOT_YET),
+        ("2,2A,0D", "V", "305.2", "1200", VALUE),
+        ("2,2A,0D", "V", "305.1", "1200", Status::Done),
+        ("2,2A,0D", "A", "305.2", "1200", Status::Done),
+        ("2,1A,1D", "V", "0.0325", "1200", Status::Done),
     ] {
         let written = Written {
             counts,
@@ -135,14 +132,17 @@ fn refused_dats(rt: HostRuntime) -> Result<(), Fail> {
     let mut long = whole.to_vec(alloc)?;
     long.push(0)?;
     let mut missing = whole.to_vec(alloc)?;
-    assert!(rt; missing.len() > 49);
+    let mut misnumbered = whole.to_vec(alloc)?;
+    assert!(rt; missing.len() > 49 && misnumbered.len() > 49);
     missing[48] = 0;
     missing[49] = 0x80;
+    misnumbered[20] = 7;
     let cut = &whole[..whole.len().saturating_sub(1)];
     for (dat, kind) in [
         (cut, DatFault::Short { at: 552 }),
         (long.as_slice(), DatFault::Long { bytes: 1 }),
         (missing.as_slice(), DatFault::Missing { at: 5, channel: 1 }),
+        (misnumbered.as_slice(), DatFault::Number { at: 3, found: 7 }),
         (&[], DatFault::Short { at: 1 }),
     ] {
         let ran = run(alloc, &WORDS, Some(&cfg), Some(dat), WHOLE)?;

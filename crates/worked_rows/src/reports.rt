@@ -1,4 +1,4 @@
-// Reports of worked recordings, by hand: at 1200 Hz a sample is taken each 1/1200 s, and 24 of them make a cycle.
+// Reports of worked recordings, by hand: at 1200 Hz a sample is taken each 1/1200 s, and 24 make a cycle.
 pub const HEADER: &str = "kind,channel,start,end,from,to,tick,value,count,mark\n";
 
 // The second interval would end with a crossing that has no sample.

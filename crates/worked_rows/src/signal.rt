@@ -90,7 +90,7 @@ fn stepped(i: u32, then: i16, after: i16) -> i16 {
     }
 }
 
-fn count(signal: Signal, i: u32) -> i16 {
+pub fn count(signal: Signal, i: u32) -> i16 {
     let sine = SINE[(i % 24) as usize];
     match signal {
         Signal::Sine => sine,

@@ -1,0 +1,107 @@
+// Records as `record16` makes them and `read_dat` reads them: two analogue channels, of which the first is
+// in volts, and 17 status channels.
+use comtrade_cfg::{read_cfg, select};
+use comtrade_dat::{DatFault, MISSING_COUNT, read_dat, record16};
+use pq_base::OutOfMemory;
+use std::alloc::{AllocError, Global};
+use std::test::Fail;
+
+const FRONT: &str = "demo,pqa,1999
+19,2A,17D
+1,UA,A,,V,0.0325,0,0,-32767,32767,1,1,P
+2,IA,A,,A,1,0,0,-32767,32767,1,1,P
+";
+
+const BACK: &str = "
+01/03/2024,12:00:01.000000
+01/03/2024,12:00:01.000000
+BINARY
+1
+";
+
+// The cfg that says so many samples.
+fn wide_cfg(alloc: Global, samples: u32) -> Result<Vec<u8>, AllocError> {
+    let mut text = Vec::new(alloc);
+    text.extend_from_slice(FRONT.as_bytes())?;
+    for n in 1..=17 {
+        let line = format!(in alloc; "{n},IN {n},,,0\n")?;
+        text.extend_from_slice(line.as_bytes())?;
+    }
+    let rate = format!(in alloc; "50\n1\n1200,{samples}")?;
+    text.extend_from_slice(rate.as_bytes())?;
+    text.extend_from_slice(BACK.as_bytes())?;
+    Ok(text)
+}
+
+// Records of these numbers and counts of the first channel; the second has none.
+fn wide_dat(alloc: Global, records: &[(u32, i16)]) -> Result<Vec<u8>, OutOfMemory> {
+    let mut dat = Vec::new(alloc);
+    for &(number, count) in records {
+        let bytes = record16(alloc, number, 0, &[count, MISSING_COUNT], &[1, 0x8000])?;
+        dat.extend_from_slice(&bytes)?;
+    }
+    Ok(dat)
+}
+
+// The samples of the first channel, or the fault of the dat; None where the cfg is refused.
+fn read(alloc: Global, cfg: &[u8], dat: &[u8]) -> Option<Result<Vec<i64>, DatFault>> {
+    let Ok(cfg) = read_cfg(alloc, cfg) else {
+        return None;
+    };
+    let Ok(selection) = select(alloc, &cfg, None, None) else {
+        return None;
+    };
+    match read_dat(alloc, &cfg, &selection, dat) {
+        Ok(recording) if recording.channels() == 1 => {
+            Some(Ok(recording.samples(0).to_vec(alloc).ok()?))
+        }
+        Ok(_) => None,
+        Err(fault) => Some(Err(fault)),
+    }
+}
+
+// 16 bytes a record; a number goes from the greatest to 0; the count of a channel that is not selected may
+// be missing.
+#[test]
+fn wide_record(rt: HostRuntime) -> Result<(), Fail> {
+    let alloc = rt.alloc();
+    let records = [(4_294_967_295, 0), (0, 2588), (1, -2588)];
+    let dat = wide_dat(alloc, &records).expect(&rt, "memory");
+    assert_eq!(rt; dat.len(), 48);
+    let read = read(alloc, &wide_cfg(alloc, 3)?, &dat).expect(&rt, "a good cfg");
+    let samples = read.expect(&rt, "a good dat");
+    assert_eq!(rt; samples.as_slice(), [0, 84_110_000, -84_110_000].as_slice());
+    Ok(())
+}
+
+// Each fault with its place; a cfg of very many samples over a dat of none.
+#[test]
+fn dat_cut_long_misnumbered(rt: HostRuntime) -> Result<(), Fail> {
+    let alloc = rt.alloc();
+    let good = wide_dat(alloc, &[(1, 0), (2, 1), (3, 2)]).expect(&rt, "memory");
+    let mut long = good.to_vec(alloc)?;
+    long.push(0)?;
+    let misnumbered = wide_dat(alloc, &[(1, 0), (2, 1), (7, 2)]).expect(&rt, "memory");
+    let missing = wide_dat(alloc, &[(1, 0), (2, MISSING_COUNT), (7, 2)]).expect(&rt, "memory");
+    let mut cut = good.to_vec(alloc)?;
+    cut.pop();
+    for (samples, dat, fault) in [
+        (3, cut.as_slice(), DatFault::Short { at: 3 }),
+        (3, long.as_slice(), DatFault::Long { bytes: 1 }),
+        (
+            3,
+            misnumbered.as_slice(),
+            DatFault::Number { at: 3, found: 7 },
+        ),
+        (
+            3,
+            missing.as_slice(),
+            DatFault::Missing { at: 2, channel: 1 },
+        ),
+        (50_000_000, [].as_slice(), DatFault::Short { at: 1 }),
+    ] {
+        let read = read(alloc, &wide_cfg(alloc, samples)?, dat).expect(&rt, "a good cfg");
+        assert!(rt; read.is_err_and(|found| found == fault), "{fault:?}");
+    }
+    Ok(())
+}
