@@ -11,7 +11,7 @@ head -c 5519 two_intervals.dat >cut.dat
 (cat two_intervals.dat; printf x) >long.dat
 head -c 1048577 /dev/zero >large.cfg
 mkdir folder
-"$pqa" 2>/dev/null
+"$pqa" check two_intervals.cfg >/dev/null || exit 2
 failed=0
 
 # expect NAME CODE SENTENCE: compares what the last run left in code, out and err
@@ -31,8 +31,9 @@ run() {
 
 run intervals --udin 230000 two_intervals.cfg two_intervals.dat
 if [ "$code" = 0 ] && [ ! -s err ] && [ "$(wc -l <out)" = 3 ]; then echo "ok      two_intervals"; else echo "FAILED  two_intervals"; failed=1; fi
-run
-expect "no words" 1 "usage: words not understood"
+"$home/crates/pqa/out/pqa" >out 2>err
+code=$?
+expect "no words, without the launcher" 1 "usage: words not understood"
 run intervals --udin 0 two_intervals.cfg two_intervals.dat
 expect "a voltage of 0" 1 "usage: words not understood"
 run intervals --udin "$(printf '\377')" two_intervals.cfg two_intervals.dat
@@ -58,7 +59,7 @@ sed 's/,V,/,A,/' two_intervals.cfg >current.cfg
 run intervals --udin 230000 current.cfg two_intervals.dat
 expect "a current alone" 5 "selection: no voltage channel"
 run intervals --udin 230000 "$home"/examples/cfg_2013_with_32_states.cfg two_intervals.dat
-expect "a cfg of several channels" 3 "cfg line 2: unsupported not yet"
+expect "a dat of other records" 7 "dat record 2: sample number 267144"
 (head -c 48 two_intervals.dat; printf '\000\200'; tail -c +51 two_intervals.dat) >missing.dat
 run intervals --udin 230000 two_intervals.cfg missing.dat
 expect "a missing count" 7 "dat record 5: channel 1 missing"
@@ -89,6 +90,21 @@ if [ -e /dev/full ]; then
     : >out
     expect "a full device" 9 "write failed (1)"
 fi
+# a limit of the output's size in mid-text: the front that fits is taken, and the rest is told as a fault
+"$pqa" check "$home/examples/cfg_2013_with_32_states.cfg" >whole 2>/dev/null
+(
+    trap '' XFSZ
+    ulimit -f 1
+    "$home/crates/pqa/out/pqa" check "$home/examples/cfg_2013_with_32_states.cfg" >front 2>err
+    echo $? >code
+)
+code=$(cat code)
+size=$(wc -c <front)
+: >out
+if [ "$size" = 0 ] || [ "$size" -ge "$(wc -c <whole)" ] || ! head -c "$size" whole | cmp -s - front; then
+    code="$code, but no front was taken"
+fi
+expect "a file full in mid-text" 9 "write failed (1)"
 # the reader ends before the program begins
 mkfifo pipe gate
 (exec 3<pipe; exec 3<&-; echo >gate) &
