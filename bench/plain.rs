@@ -1,5 +1,5 @@
-// The steps of `intervals` in plain Rust, without contracts: the measure of the proved program's speed, on cfgs of one
-// channel at 1200 samples a second and 50 Hz. Built by bench/speed.sh; no part of the product.
+// The steps of `intervals` in plain Rust, without contracts: the measure of the proved program's speed, on cfgs of
+// analogue channels in V at 50 Hz. Built by bench/speed.sh; no part of the product.
 use std::io::Write;
 
 struct Rule {
@@ -8,10 +8,15 @@ struct Rule {
     hi: usize,
 }
 
-const RULE: Rule = Rule { h: 12, lo: 10, hi: 15 };
+impl Rule {
+    fn of(rate: u64) -> Rule {
+        let h = ((rate + 50_000_000) / 100_000_000) as usize;
+        Rule { h, lo: h - h / 5, hi: h + h / 4 }
+    }
+}
 
-// Start, end, rank and row of an item.
-type Item = (usize, u8, usize, String);
+// End, rank, start and channel of an item, and its row.
+type Item = (usize, u8, usize, usize, String);
 
 fn crossing(s: &[i64], rising: bool, low: usize, high: usize) -> Option<usize> {
     (low..high).find(|&i| {
@@ -23,16 +28,16 @@ fn crossing(s: &[i64], rising: bool, low: usize, high: usize) -> Option<usize> {
     })
 }
 
-fn first(s: &[i64]) -> Option<usize> {
+fn first(s: &[i64], rule: &Rule) -> Option<usize> {
     if s.is_empty() {
         return None;
     }
-    Some(crossing(s, true, 1, (2 * RULE.hi + 1).min(s.len())).unwrap_or(0))
+    Some(crossing(s, true, 1, (2 * rule.hi + 1).min(s.len())).unwrap_or(0))
 }
 
-fn next(s: &[i64], b: usize, rising: bool) -> Option<usize> {
-    let end = (b + RULE.hi + 1).min(s.len());
-    crossing(s, rising, b + RULE.lo, end).or(if b + RULE.hi < s.len() { Some(b + RULE.h) } else { None })
+fn next(s: &[i64], rule: &Rule, b: usize, rising: bool) -> Option<usize> {
+    let end = (b + rule.hi + 1).min(s.len());
+    crossing(s, rising, b + rule.lo, end).or(if b + rule.hi < s.len() { Some(b + rule.h) } else { None })
 }
 
 fn isqrt(x: u128) -> u64 {
@@ -55,50 +60,94 @@ fn rms(s: &[i64]) -> u64 {
     isqrt(sum / s.len() as u128)
 }
 
-fn boundaries(s: &[i64]) -> Vec<usize> {
-    let mut places = Vec::with_capacity(s.len() / RULE.lo + 1);
-    let mut place = first(s);
+fn boundaries(s: &[i64], rule: &Rule) -> Vec<usize> {
+    let mut places = Vec::with_capacity(s.len() / rule.lo + 1);
+    let mut place = first(s, rule);
     let mut rising = true;
     while let Some(b) = place {
         places.push(b);
         rising = !rising;
-        place = next(s, b, rising);
+        place = next(s, rule, b, rising);
     }
     places
 }
 
-fn cycle_boundaries(s: &[i64]) -> Vec<usize> {
-    boundaries(s).into_iter().step_by(2).collect()
+fn cycle_boundaries(s: &[i64], rule: &Rule) -> Vec<usize> {
+    boundaries(s, rule).into_iter().step_by(2).collect()
 }
 
-// Start, end and value of the windows; then start, end, worst value and whether it is open, of the events of a kind.
-fn windows(s: &[i64]) -> Vec<(usize, usize, u64)> {
-    let places = boundaries(s);
-    places.windows(3).map(|w| (w[0], w[2], rms(&s[w[0]..w[2]]))).collect()
-}
+// Start, channel, end and value of a window.
+type Window = (usize, usize, usize, u64);
 
-fn events(
-    windows: &[(usize, usize, u64)],
-    n: usize,
-    begins: impl Fn(u64) -> bool,
-    ends: impl Fn(u64) -> bool,
-    worse: impl Fn(u64, u64) -> u64,
-) -> Vec<(usize, usize, u64, bool)> {
-    let mut found = Vec::new();
-    let mut running: Option<(usize, u64)> = None;
-    for &(start, end, value) in windows {
-        running = match running {
-            None if begins(value) => Some((start, value)),
-            None => None,
-            Some((from, worst)) if ends(value) => {
-                found.push((from, end, worse(worst, value), false));
-                None
-            }
-            Some((from, worst)) => Some((from, worse(worst, value))),
-        };
+// Start, end, channel, worst value and whether it is open, of an event.
+type Event = (usize, usize, usize, u64, bool);
+
+// The windows of all channels, by start and then by channel.
+fn windows(channels: &[Vec<i64>], rule: &Rule) -> Vec<Window> {
+    let mut all = Vec::with_capacity(channels.iter().map(|s| s.len() / rule.lo + 1).sum());
+    for (channel, s) in channels.iter().enumerate() {
+        let places = boundaries(s, rule);
+        all.extend(places.windows(3).map(|w| (w[0], channel, w[2], rms(&s[w[0]..w[2]]))));
     }
-    if let Some((from, worst)) = running {
-        found.push((from, n, worst, true));
+    all.sort_unstable();
+    all
+}
+
+// How many channels have a latest value, and of how many it is past a threshold, or back.
+#[derive(Clone, Copy, Default)]
+struct Counts {
+    there: usize,
+    past: [usize; 3],
+    back: [usize; 3],
+}
+
+impl Counts {
+    fn add(&mut self, udin: u64, v: u64, one: usize) {
+        let past = [v < udin * 900, v > udin * 1100, v < udin * 50];
+        let back = [v >= udin * 920, v <= udin * 1080, v >= udin * 70];
+        self.there = self.there.wrapping_add(one);
+        for kind in 0..3 {
+            self.past[kind] = self.past[kind].wrapping_add(if past[kind] { one } else { 0 });
+            self.back[kind] = self.back[kind].wrapping_add(if back[kind] { one } else { 0 });
+        }
+    }
+}
+
+// The events of all kinds over the windows of all channels.
+fn events(windows: &[Window], channels: usize, udin: u64, n: usize) -> [Vec<Event>; 3] {
+    let mut found = [Vec::new(), Vec::new(), Vec::new()];
+    let mut latest: Vec<Option<u64>> = vec![None; channels];
+    let mut counts = Counts::default();
+    // start, channel and worst value of the event of a kind that runs
+    let mut running: [Option<(usize, usize, u64)>; 3] = [None; 3];
+    for &(start, channel, end, value) in windows {
+        if let Some(before) = latest[channel].replace(value) {
+            counts.add(udin, before, usize::MAX);
+        }
+        counts.add(udin, value, 1);
+        for kind in 0..3 {
+            let begins = if kind == 2 { counts.past[2] == channels } else { counts.past[kind] > 0 };
+            let ends = if kind == 2 { counts.back[2] > 0 } else { counts.back[kind] == counts.there };
+            running[kind] = match running[kind] {
+                None if begins => Some((start, channel, value)),
+                None => None,
+                Some((from, of, worst)) => {
+                    let is_worse = if kind == 1 { value > worst } else { value < worst };
+                    let (of, worst) = if is_worse { (channel, value) } else { (of, worst) };
+                    if ends {
+                        found[kind].push((from, end, of, worst, false));
+                        None
+                    } else {
+                        Some((from, of, worst))
+                    }
+                }
+            };
+        }
+    }
+    for kind in 0..3 {
+        if let Some((from, of, worst)) = running[kind] {
+            found[kind].push((from, n, of, worst, true));
+        }
     }
     found
 }
@@ -192,7 +241,7 @@ fn runs(places: &[usize], ticks: &[usize]) -> Vec<(usize, usize)> {
 }
 
 // Where events begin, in rising order, each with the furthest end of those that begin there or before.
-fn reaches<'a>(events: impl Iterator<Item = &'a (usize, usize, u64, bool)>) -> Vec<(usize, usize)> {
+fn reaches<'a>(events: impl Iterator<Item = &'a Event>) -> Vec<(usize, usize)> {
     let mut found: Vec<(usize, usize)> = events.map(|event| (event.0, event.1)).collect();
     found.sort_unstable();
     let mut furthest = 0;
@@ -208,25 +257,37 @@ fn is_touched(reaches: &[(usize, usize)], start: usize, end: usize) -> bool {
     count > 0 && start < reaches[count - 1].1
 }
 
-// The samples in microvolts, or the number of the first record that is not there or has no count.
-fn samples(a: i128, b: i128, n: usize, dat: &[u8]) -> Result<Vec<i64>, usize> {
-    let mut samples = Vec::with_capacity(n.min(dat.len() / 10));
+fn number(record: &[u8]) -> u32 {
+    u32::from_le_bytes([record[0], record[1], record[2], record[3]])
+}
+
+// The samples of all channels in microvolts, or the number of the first record that is at fault.
+fn samples(coefficients: &[(i128, i128)], n: usize, dat: &[u8]) -> Result<Vec<Vec<i64>>, usize> {
+    let size = 8 + 2 * coefficients.len();
+    let room = n.min(dat.len() / size);
+    let mut samples: Vec<Vec<i64>> = coefficients.iter().map(|_| Vec::with_capacity(room)).collect();
     for i in 0..n {
-        let record = dat.get(10 * i..10 * i + 10).ok_or(i + 1)?;
-        let count = i16::from_le_bytes([record[8], record[9]]);
-        if count == -32_768 {
+        let record = dat.get(size * i..size * (i + 1)).ok_or(i + 1)?;
+        if i > 0 && number(record) != number(&dat[size * (i - 1)..]).wrapping_add(1) {
             return Err(i + 1);
         }
-        let picovolts = a * i128::from(count) + b;
-        let size = ((picovolts.unsigned_abs() as u64 + 500_000) / 1_000_000) as i64;
-        samples.push(if picovolts < 0 { -size } else { size });
+        for (channel, &(a, b)) in coefficients.iter().enumerate() {
+            let count = i16::from_le_bytes([record[8 + 2 * channel], record[9 + 2 * channel]]);
+            if count == -32_768 {
+                return Err(i + 1);
+            }
+            let picovolts = a * i128::from(count) + b;
+            let size = ((picovolts.unsigned_abs() as u64 + 500_000) / 1_000_000) as i64;
+            samples[channel].push(if picovolts < 0 { -size } else { size });
+        }
     }
     Ok(samples)
 }
 
-fn row(clock: &Clock, kind: &str, start: usize, end: usize, value: u64, count: u64, mark: &str) -> String {
+fn row(clock: &Clock, kind: &str, channel: usize, span: (usize, usize), value: u64, count: u64, mark: &str) -> String {
+    let (start, end) = span;
     let (from, to) = (printed(clock.time_of(start)), printed(clock.time_of(end)));
-    format!("{kind},1,{start},{end},{from},{to},,{value},{count},{mark}\n")
+    format!("{kind},{},{start},{end},{from},{to},,{value},{count},{mark}\n", channel + 1)
 }
 
 fn main() {
@@ -234,38 +295,42 @@ fn main() {
     let udin: u64 = words[3].parse().unwrap();
     let cfg = std::fs::read_to_string(&words[4]).unwrap();
     let lines: Vec<&str> = cfg.lines().collect();
-    let channel: Vec<&str> = lines[2].split(',').collect();
-    let (rate, n) = lines[5].split_once(',').unwrap();
-    let clock = Clock { t0: moment(lines[6]), rate: scaled(rate, 6) as u64 };
+    let count: usize = lines[1].split(',').nth(1).unwrap().trim_end_matches('A').parse().unwrap();
+    let coefficients: Vec<(i128, i128)> = lines[2..2 + count]
+        .iter()
+        .map(|line| line.split(',').collect::<Vec<&str>>())
+        .map(|fields| (scaled(fields[5], 12), scaled(fields[6], 12)))
+        .collect();
+    let (rate, n) = lines[4 + count].split_once(',').unwrap();
+    let clock = Clock { t0: moment(lines[5 + count]), rate: scaled(rate, 6) as u64 };
+    let rule = Rule::of(clock.rate);
     let n: usize = n.parse().unwrap();
     let dat = std::fs::read(&words[5]).unwrap();
-    let samples = samples(scaled(channel[5], 12), scaled(channel[6], 12), n, &dat).unwrap();
-    assert_eq!(dat.len(), 10 * n);
+    let channels = samples(&coefficients, n, &dat).unwrap();
+    assert_eq!(dat.len(), (8 + 2 * count) * n);
     drop(dat);
-    let all = windows(&samples);
-    let kinds = [
-        ("dip", 5u8, events(&all, n, |v| v < udin * 900, |v| v >= udin * 920, u64::min)),
-        ("swell", 6, events(&all, n, |v| v > udin * 1100, |v| v <= udin * 1080, u64::max)),
-        ("interruption", 7, events(&all, n, |v| v < udin * 50, |v| v >= udin * 70, u64::min)),
-    ];
-    let places = cycle_boundaries(&samples);
-    let reaches = reaches(kinds.iter().flat_map(|(_, _, found)| found));
+    let found = events(&windows(&channels, &rule), count, udin, n);
+    let places = cycle_boundaries(&channels[0], &rule);
+    let reaches = reaches(found.iter().flatten());
     let mut items: Vec<Item> = Vec::new();
     for (first, last) in runs(&places, &clock.tick_places(n)) {
         let (start, end) = (places[first], places[last]);
         let mark = if is_touched(&reaches, start, end) { "flagged" } else { "clear" };
-        items.push((end, 1, start, row(&clock, "basic", start, end, rms(&samples[start..end]), 10, mark)));
+        for (channel, s) in channels.iter().enumerate() {
+            let row = row(&clock, "basic", channel, (start, end), rms(&s[start..end]), 10, mark);
+            items.push((end, 1, start, channel, row));
+        }
     }
-    for (kind, rank, found) in &kinds {
-        for (start, end, value, open) in found {
-            let mark = if *open { "open" } else { "closed" };
-            items.push((*end, *rank, *start, row(&clock, kind, *start, *end, *value, 0, mark)));
+    for (kind, &(name, rank)) in [("dip", 5u8), ("swell", 6), ("interruption", 7)].iter().enumerate() {
+        for &(start, end, channel, value, open) in &found[kind] {
+            let mark = if open { "open" } else { "closed" };
+            items.push((end, rank, start, channel, row(&clock, name, channel, (start, end), value, 0, mark)));
         }
     }
     items.sort_unstable();
     let mut text = b"kind,channel,start,end,from,to,tick,value,count,mark\n".to_vec();
     for item in &items {
-        text.write_all(item.3.as_bytes()).unwrap();
+        text.write_all(item.4.as_bytes()).unwrap();
     }
     std::io::stdout().write_all(&text).unwrap();
 }

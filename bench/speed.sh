@@ -1,11 +1,13 @@
 #!/bin/sh
-# Times `intervals` on two recordings of ten million samples, and `check` on a cfg of a megabyte and 1,998 channels, against
-# plain Rust that does the same steps, and compares their output. Outside the gate: wants rustc and python3.
+# Times `intervals` on two recordings of ten million samples, on three channels of 13.4 million and on sixteen of two
+# million, and `check` on a cfg of a megabyte and 1,998 channels, against plain Rust that does the same steps, and compares
+# their output. Outside the gate: wants rustc, python3 and a gigabyte for files.
 set -e
 home=$(cd "$(dirname "$0")/.." && pwd)
 work=$(mktemp -d)
 trap 'rm -rf "$work"' EXIT
 python3 "$home/bench/largest_recording.py" "$work"
+python3 "$home/bench/several_channels.py" "$work"
 python3 "$home/bench/largest_cfg.py" "$work"
 for program in plain plain_check; do
     rustc -O -C opt-level=3 -C target-cpu=x86-64-v2 -o "$work/$program" "$home/bench/$program.rs"
@@ -38,12 +40,17 @@ PYTHON
 
 compare plain intervals --udin 230000 largest.cfg largest.dat
 compare plain intervals --udin 230000 dips.cfg dips.dat
+compare plain intervals --udin 230000 three.cfg three.dat
+compare plain intervals --udin 230000 sixteen.cfg sixteen.dat
 python3 - "$home/crates/pqa/out/pqa" <<'PYTHON'
-import os, resource, subprocess, sys
+import os, subprocess, sys
 
-subprocess.run([sys.argv[1], "intervals", "--udin", "230000", "largest.cfg", "largest.dat"], stdout=subprocess.DEVNULL, check=True)
-peak = resource.getrusage(resource.RUSAGE_CHILDREN).ru_maxrss * 1024
-dat = os.path.getsize("largest.dat")
-print(f"intervals: {peak / 1e6:.0f} MB at the peak; the dat and 8 bytes a sample are {(dat + dat // 10 * 8) / 1e6:.0f} MB")
+for name, channels in [("largest", 1), ("three", 3), ("sixteen", 16)]:
+    words = ["intervals", "--udin", "230000", f"{name}.cfg", f"{name}.dat"]
+    child = subprocess.Popen([sys.argv[1], *words], stdout=subprocess.DEVNULL)
+    peak = os.wait4(child.pid, 0)[2].ru_maxrss * 1024
+    dat = os.path.getsize(f"{name}.dat")
+    samples = dat // (8 + 2 * channels) * channels
+    print(f"{name}: {peak / 1e6:.0f} MB at the peak; the dat and 8 bytes a sample are {(dat + 8 * samples) / 1e6:.0f} MB")
 PYTHON
 compare plain_check check many.cfg
