@@ -66,8 +66,8 @@ within_push n true e [] within = (omega arith, refl)
 within_push n false e [] within = tt
 within_push n b e (x ∷ xs) within = at x.first x.last e (within_push n b e xs) within
   where
-    at : (f : ℕ) (last : Option ℕ) (e : Bool) → (AreWithin n xs → AreWithin (n + 1) (add_condition b e n xs)) →
-        AreWithin n (extent f last ∷ xs)
+    at : (f : ℕ) (last : Option ℕ) (e : Bool) →
+        (AreWithin n xs → AreWithin (n + 1) (add_condition b e n xs)) → AreWithin n (extent f last ∷ xs)
         → AreWithin (n + 1) (add_condition b e n (extent f last ∷ xs))
     at f None true more within = (within.0, omega arith, tt)
     at f None false more within = (omega (arith, within.0), refl)
@@ -91,7 +91,8 @@ extents_within cs =
     by_pushes (λ cs. AreWithin (length cs) (extents cs)) within_none
     (λ cs c within.
     subst (λ es. AreWithin (length (cs ++ c ∷ [])) es) (sym (extents_push cs c))
-    (subst (λ n. AreWithin n (add_condition c.begins c.ends (length cs) (extents cs))) (sym (length_push cs c))
+    (subst (λ n. AreWithin n (add_condition c.begins c.ends (length cs) (extents cs)))
+        (sym (length_push cs c))
     (within_push (length cs) c.begins c.ends (extents cs) within)))
     cs
 
@@ -107,7 +108,8 @@ open_push true e n [] = refl
 open_push false e n [] = refl
 open_push b e n (x ∷ xs) = at x.first x.last e (open_push b e n xs)
   where
-    at : (f : ℕ) (last : Option ℕ) (e : Bool) → open_of (add_condition b e n xs) ≡ next_open b e n (open_of xs) →
+    at : (f : ℕ) (last : Option ℕ) (e : Bool) →
+        open_of (add_condition b e n xs) ≡ next_open b e n (open_of xs) →
         open_of (add_condition b e n (extent f last ∷ xs)) ≡ next_open b e n (open_of (extent f last ∷ xs))
     at f None true more = refl
     at f None false more = refl
@@ -289,7 +291,8 @@ ended_from kind cs c b e (x ∷ xs) within = at x.first x.last e (ended_from kin
     at f None false more within = subst (λ ys. [] ≡ map (event_over kind 0 cs) (filter has_ended ys) ++ [])
         (sym within.1) refl
     at f (Some k) e more within =
-        ap (λ v. v ∷ map (event_over kind 0 (cs ++ c ∷ [])) (filter has_ended (add_condition b e (length cs) xs)))
+        ap (λ v. v ∷ map (event_over kind 0 (cs ++ c ∷ []))
+            (filter has_ended (add_condition b e (length cs) xs)))
         (ended_kept kind 0 f k cs c within.0 within.1)
         ∙ ap (λ vs. event_over kind 0 cs (extent f (Some k)) ∷ vs) (more within.2)
 

@@ -44,7 +44,8 @@ read_count shelf room = min (min shelf.piece room) (length shelf.rest)
 abbrev pub names_after : Files → Option (List Text) → Text → Option (List Text)
 names_after files None name = None
 names_after files (Some names) name =
-    if is_some (file_named files name) && nat_lt (length names) MOST_TOLD then Some (names ++ name ∷ []) else None
+    if is_some (file_named files name) && nat_lt (length names) MOST_TOLD then Some (names ++ name ∷ [])
+    else None
 
 -- what the shelf was made of stays
 abbrev pub SameShelf : MemoryShelf → MemoryShelf → Type 0

@@ -86,8 +86,8 @@ pub dat_verdicts : map (verdict (course_of_words words))
 unfolding task_of selected_configuration selected_of samples_of digits text_field
     number_field position_field decimal_text decimal_field channel_count frequency_field rate_field
     samples_field leap_field station_fields analogue_fields status_fields configuration_of configuration_ahead
-    lines_behind channel_lines decimal_of written_moment date_of clock_time_of days_from_civil day_count days_of_years
-    days_of_months
+    lines_behind channel_lines decimal_of written_moment date_of clock_time_of days_from_civil day_count
+    days_of_years days_of_months
 dat_verdicts = refl
 
 -- two channels of these units and coefficients
@@ -97,8 +97,8 @@ two_channels unit a other_unit other_a = cfg_with (codes "2,2A,0D")
     ++ codes ",0,0,-32767,32767,1,1,P") ∷ []) (codes "1200,3")
 
 -- the refusals of the cfg, with no dat: the coefficient and the rate at their limits, a current, a fault
--- after its numbers of channels, a voltage beside a state or a current, two voltages, of which one may be past the
--- limit, and no channel
+-- after its numbers of channels, a voltage beside a state or a current, two voltages, of which one may be past
+-- the limit, and no channel
 pub cfg_verdicts : map (λ cfg. verdict (course_of_words words) (Some ((codes "a.cfg", cfg) ∷ [])))
     (one_channel (codes "V") (codes "305.2") (codes "1200,3")
     ∷ one_channel (codes "V") (codes "305.1") (codes "1200,3")
@@ -125,8 +125,8 @@ pub cfg_verdicts : map (λ cfg. verdict (course_of_words words) (Some ((codes "a
 unfolding task_of selected_configuration selected_of samples_of digits text_field
     number_field position_field decimal_text decimal_field channel_count frequency_field rate_field
     samples_field leap_field station_fields analogue_fields status_fields configuration_of configuration_ahead
-    lines_behind channel_lines decimal_of written_moment date_of clock_time_of days_from_civil day_count days_of_years
-    days_of_months
+    lines_behind channel_lines decimal_of written_moment date_of clock_time_of days_from_civil day_count
+    days_of_years days_of_months
 cfg_verdicts = refl
 
 -- a cfg of no sample and an empty dat are a job: the header alone
@@ -135,8 +135,8 @@ pub empty_recording : verdict (course_of_words words) (files_with (worked_cfg (c
 unfolding task_of selected_configuration selected_of samples_of digits text_field
     number_field position_field decimal_text decimal_field channel_count frequency_field rate_field
     samples_field leap_field station_fields analogue_fields status_fields configuration_of configuration_ahead
-    lines_behind channel_lines decimal_of written_moment date_of clock_time_of days_from_civil day_count days_of_years
-    days_of_months report_text header sequential in_order items_under all_polyphase_events merged_windows
+    lines_behind channel_lines decimal_of written_moment date_of clock_time_of days_from_civil day_count
+    days_of_years days_of_months report_text header sequential in_order items_under all_polyphase_events merged_windows
     conditions begins ends latest events extents event_from
     successors windows windows_over tick_places ticks place_of time_of fronts front_of basic_runs runs
     cycle_boundaries boundaries first_boundary rule_of first_between first_of numbers_from steps_from
@@ -171,8 +171,8 @@ pub names_of_both : AsksAll (course_of_words words)
 unfolding task_of selected_configuration selected_of samples_of digits text_field
     number_field position_field decimal_text decimal_field channel_count frequency_field rate_field
     samples_field leap_field station_fields analogue_fields status_fields configuration_of configuration_ahead
-    lines_behind channel_lines decimal_of written_moment date_of clock_time_of days_from_civil day_count days_of_years
-    days_of_months
+    lines_behind channel_lines decimal_of written_moment date_of clock_time_of days_from_civil day_count
+    days_of_years days_of_months
 names_of_both =
     (Some (worked_cfg (codes "3")), codes "a.dat" ∷ [], refl, refl, (None, [], refl, refl, refl))
 

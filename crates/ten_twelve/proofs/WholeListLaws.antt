@@ -72,5 +72,6 @@ gives_runs = record {
       ap (λ rs. rs ++ flat_map option_to_list answers) (sym (none_chopped first.length))
       ∙ gives_from first.length [] elements first last answers refl seen fed steps;
   ends_there = λ elements first last answers k e run some seen fed steps there given.
-      ends_there_from first.length [] elements first last answers k e run some refl seen fed steps there given;
+      ends_there_from first.length [] elements first last answers k e run some refl seen fed steps there
+          given;
 }

@@ -28,7 +28,8 @@ basic,1,264,504,2024-03-01T12:00:01.220000000Z,2024-03-01T12:00:01.420000000Z,,2
 basic,2,264,504,2024-03-01T12:00:01.220000000Z,2024-03-01T12:00:01.420000000Z,,227500000,10,flagged
 ";
 
-// three_channel_interruption: it begins with the last channel that falls, and ends with the first that is back.
+// three_channel_interruption: it begins with the last channel that falls, and ends with the first that
+// is back.
 const INTERRUPTED: &str = "kind,channel,start,end,from,to,tick,value,count,mark
 interruption,3,144,228,2024-03-01T12:00:01.120000000Z,2024-03-01T12:00:01.190000000Z,,9750000,0,closed
 basic,1,24,264,2024-03-01T12:00:01.020000000Z,2024-03-01T12:00:01.220000000Z,,161014459,10,flagged
@@ -60,7 +61,8 @@ const THREE: &str = "3,3A,0D
 #[derive(Clone, Copy)]
 enum Wave {
     Worked(Signal),
-    // A square of 7000 counts, 24 samples a cycle from place 0 on, with other counts from a place up to another.
+    // A square of 7000 counts, 24 samples a cycle from place 0 on, with other counts from a place up to
+    // another.
     Square { low: i16, from: u32, until: u32 },
     // The same, of 20 samples a cycle from place 4 on.
     Short { low: i16, from: u32, until: u32 },
@@ -177,8 +179,8 @@ const SILENT: &str =
 interruption,4,0,9600,2024-03-01T12:00:01.000000000Z,2024-03-01T12:00:03.000000000Z,,0,0,open
 ";
 
-// cfg_2013_with_32_states, with 9,600 records of 28 bytes whose counts are all 0: nine basic intervals of four
-// channels, and both events.
+// cfg_2013_with_32_states, with 9,600 records of 28 bytes whose counts are all 0: nine basic intervals of
+// four channels, and both events.
 #[test]
 fn four_channels_of_eight(rt: HostRuntime) -> Result<(), Fail> {
     let alloc = rt.alloc();

@@ -106,8 +106,8 @@ fn dat_cut_long_misnumbered(rt: HostRuntime) -> Result<(), Fail> {
     Ok(())
 }
 
-// Each call of the shelf fails in turn, by its number: open 0, read 1, read 2 at the end, open 3, read 4, read 5
-// at the end. There is no seventh.
+// Each call of the shelf fails in turn, by its number: open 0, read 1, read 2 at the end, open 3, read 4,
+// read 5 at the end. There is no seventh.
 #[test]
 fn failing_calls(rt: HostRuntime) -> Result<(), Fail> {
     let alloc = rt.alloc();
