@@ -6,7 +6,7 @@ ghost use Rattle.pq_base.specs.Decimal.{IsCut, decimal_of, exponent_of, is_expon
 ghost use Rattle.pq_words.specs.Magnitude.{IsWithin};
 ghost use Rattle.pq_words.specs.Text.{digits_between, parted_at};
 
-use crate::number::{digits, with_digits};
+use crate::number::{read_digits, with_digits};
 use crate::rounding::rounded_quotient;
 
 // Digits of a decimal, before and after its point together.
@@ -118,7 +118,7 @@ fn read_exponent(text: &[u8]) -> Option<i32>
     ensures within { IfSome result (IsWithin 999) }
 {
     let (negative, unsigned) = cut_sign(text);
-    let size = digits(unsigned, 3)? as i32;
+    let size = read_digits(unsigned, 3)? as i32;
     Some(if negative { -size } else { size })
 }
 

@@ -5,7 +5,7 @@
 pub use decimal::{Scaled, read_decimal};
 pub use memory_shelf::MemShelf;
 pub use memory_sink::MemSink;
-pub use number::read_number;
+pub use number::{read_digits, read_number};
 pub use real::{ErrSink, FileShelf, OutSink};
 pub use recording::Recording;
 pub use rounding::rounded_quotient;

@@ -10,14 +10,14 @@ ghost use Rattle.pq_words.specs.Text.{digits_between, number};
 pub fn read_number(text: &[u8]) -> Option<u64>
     ensures { result ≡ number text.now }
 {
-    match digits(text, 10) {
+    match read_digits(text, 10) {
         Some(value) => Some(value as u64),
         None => None,
     }
 }
 
-// The number that one to `most` digits write; None for any other text.
-pub(crate) fn digits(text: &[u8], most: usize) -> Option<u128>
+/// The number that one to `most` digits write, leading zeros allowed; None for any other text.
+pub fn read_digits(text: &[u8], most: usize) -> Option<u128>
     requires { most ≤ 38 }
     ensures value { result ≡ digits_between 1 most text.now }
     ensures within { IfSome result (λ n. n < 10 ^ most) }

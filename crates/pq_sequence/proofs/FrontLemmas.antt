@@ -1,6 +1,6 @@
 -- Fronts: where boundaries are told apart by a place, and that the fronts of ticks rise.
 use Rattle.std.proofs.Common.{◌≡◌, ℕ, zero, suc, ◌+◌, ◌-◌, ◌<◌, ◌≤◌, ◌==◌, Bool, true, false, List, [], ◌∷◌, ◌++◌, length, map, filter_map, get_or, Option, Some, None, unwrap_or, option_to_list, IsTrue, All, ℤ, pos, ◌+ℤ◌, ◌≤ℤ◌, sym, ◌∙◌, ap, subst, refl, inl, inr, arith, append_assoc}
-use Rattle.std.specs.Prelude.{nat_le, nat_lt, int_le}
+use Rattle.std.specs.Prelude.{nat_le, nat_lt}
 use Rattle.std.specs.Bool.{then_some}
 use Rattle.std.specs.List.{AllPairs, cons_option}
 use Rattle.std.specs.List.Sorted.{IsNonDecreasing, IsPartitionPoint, IsSorted}
@@ -13,13 +13,13 @@ use Rattle.std.proofs.lemmas.List.Elements.{All-cons, All-nil}
 use Rattle.std.proofs.lemmas.List.Filters.{All-dedup}
 use Rattle.std.proofs.lemmas.Map.Keys.{IsStrictlyIncreasing-dedup}
 use Rattle.pq_sequence.specs.BasicInterval.{front_of, fronts}
-use Rattle.pq_sequence.specs.MeasuredRecording.{tick_place, tick_places}
+use Rattle.pq_sequence.specs.MeasuredRecording.{tick_places}
 use Rattle.pq_time.specs.declared.clock.Clock.{Clock}
-use Rattle.pq_time.specs.Tick.{HasTicks, IsTick, moment_of, ticks}
-use Rattle.pq_time.specs.Time.{is_taken_by, place_of}
+use Rattle.pq_time.specs.Tick.{HasTicks, IsTick, moment_of, tick_place, ticks}
+use Rattle.pq_time.proofs.PlaceLaws.{place_rises}
 use Rattle.pq_words.specs.First.{IsFirst, first_between}
 use Rattle.pq_words.specs.Steps.{steps_from}
-use Rattle.pq_words.proofs.FirstLaws.{first_between_is, first_between_only}
+use Rattle.pq_words.proofs.FirstLaws.{first_between_is, first_between_only, first_earlier}
 use Rattle.ten_twelve.specs.Run.{AreStarts}
 
 -- ---- the front of a place
@@ -71,23 +71,7 @@ front_inside boundaries place k is =
     (first_between_is (reaches boundaries place) 0 (length boundaries)) in
     first.below
 
--- ---- what is asked of later places is passed no earlier
-
-earlier : (t u : ℕ → Bool) (low high : ℕ) (r s : Option ℕ) → ((k : ℕ) → IsTrue (u k) → IsTrue (t k)) →
-    IsFirst t low high r → IsFirst u low high s → unwrap_or r high ≤ unwrap_or s high
-earlier t u low high None None weaker h g = omega arith
-earlier t u low high None (Some k) weaker h g = absurd (h k g.after g.below (weaker k g.passes))
-earlier t u low high (Some k) None weaker h g = omega (arith, h.below)
-earlier t u low high (Some k) (Some j) weaker h g =
-    elim (cases_lt j k) [
-      | inl less ↦ absurd (h.none_before j g.after less (weaker j g.passes))
-      | inr rest ↦ rest
-    ]
-
-first_earlier : (t u : ℕ → Bool) (low high : ℕ) → ((k : ℕ) → IsTrue (u k) → IsTrue (t k)) →
-    unwrap_or (first_between t low high) high ≤ unwrap_or (first_between u low high) high
-first_earlier t u low high weaker = earlier t u low high (first_between t low high) (first_between u low high)
-    weaker (first_between_is t low high) (first_between_is u low high)
+-- ---- later places
 
 later_than_both : (p q b : ℕ) → p ≤ q → nat_le q b ≡ true → nat_le p b ≡ true
 later_than_both p q b h is = grind (arith, nat_tests, h, is)
@@ -103,15 +87,6 @@ front_rises boundaries p q i j h at_p at_q =
     let first : i ≤ unwrap_or (first_between (reaches boundaries q) 0 n) n =
     subst (λ o. unwrap_or o n ≤ unwrap_or (first_between (reaches boundaries q) 0 n) n) at_p both in
     subst (λ o. i ≤ unwrap_or o n) at_q first
-
-after_both : (a b c : ℤ) → a ≤ℤ b → int_le b c ≡ true → int_le a c ≡ true
-after_both a b c h is = grind (arith, ints, h, is)
-
--- the place of a later moment is no earlier
-pub place_rises : (clock : Clock) (t u : ℤ) (n : ℕ) → t ≤ℤ u → place_of clock t n ≤ place_of clock u n
-unfolding place_of
-place_rises clock t u n h = first_earlier (is_taken_by clock t) (is_taken_by clock u) 0 n
-    (λ k. after_both t u _ h)
 
 -- ---- numbers that do not fall
 

@@ -9,8 +9,7 @@ use Rattle.polyphase.specs.PolyphaseEvent.{ChannelWindow, all_polyphase_events, 
 use Rattle.pq_base.specs.Recorded.{Recorded, sample_count, samples_at}
 use Rattle.pq_sequence.specs.BasicInterval.{basic_runs, cycles_of}
 use Rattle.pq_time.specs.declared.clock.Clock.{Clock}
-use Rattle.pq_time.specs.Tick.{moment_of, ticks}
-use Rattle.pq_time.specs.Time.{place_of}
+use Rattle.pq_time.specs.Tick.{tick_place, ticks}
 use Rattle.ten_twelve.specs.declared.span.Span.{Span}
 use Rattle.zero_cross.specs.declared.rule.Rule.{Rule}
 use Rattle.zero_cross.specs.Boundary.{rule_of, cycle_boundaries}
@@ -26,10 +25,6 @@ reference_cycles r = cycle_boundaries (samples_at r r.reference) (recorded_rule 
 -- when the samples are taken (profile)
 abbrev pub clock_of : Recorded → Clock
 clock_of r = record { t0 = r.t0; rate = r.rate }
-
--- the place of a tick, a UTC second, among n samples (profile)
-abbrev pub tick_place : Clock → ℕ → ℤ → ℕ
-tick_place clock n second = place_of clock (moment_of second) n
 
 -- the places of the 10-minute ticks, at which basic intervals begin anew (4.5)
 unfoldable pub tick_places : Clock → ℕ → List ℕ

@@ -3,20 +3,14 @@ ghost use Rattle.std.specs.Prelude.{◌≡◌, ◌-◌, ◌≤◌, length, IfOk,
 ghost use Rattle.std.specs.List.Sorted.{IsNonDecreasing};
 ghost use Rattle.pq_sequence.specs.BasicInterval.{front_of, fronts};
 ghost use Rattle.pq_sequence.specs.Lists.{Adds, Gives};
-ghost use Rattle.pq_sequence.specs.MeasuredRecording.{tick_place, tick_places};
-ghost use Rattle.pq_time.specs.Tick.{IsTick};
+ghost use Rattle.pq_sequence.specs.MeasuredRecording.{tick_places};
 ghost use Rattle.pq_time.specs.Time.{IsClock};
 ghost use Rattle.ten_twelve.specs.Run.{AreStarts};
 ghost use Rattle.zero_cross.specs.Boundary.{AreBoundaries};
 
-use pq_time::Clock;
+use pq_time::{Clock, TEN_MINUTES};
 use pq_words::MOST_SAMPLES;
 use std::alloc::{AllocError, Global};
-
-// Seconds between two ticks.
-const TEN_MINUTES: u64 = 600;
-
-const NANOSECONDS_IN_SECOND: i64 = 1_000_000_000;
 
 /// The fronts by index of their cycle: 0, and that of each 10-minute tick among n samples.
 pub fn all_fronts(
@@ -33,21 +27,11 @@ pub fn all_fronts(
 {
     let mut found = vec![in alloc; 0u64]?;
     for second in clock.ticks(n, TEN_MINUTES) {
-        let place = tick_place(clock, n, second);
+        let place = clock.tick_place(n, second);
         push_front(&mut found, front_of(boundaries, place))?;
     }
     found.dedup();
     Ok(found)
-}
-
-// The place of a tick.
-fn tick_place(clock: &Clock, n: u64, second: i64) -> u64
-    requires clock { IsClock clock.now }
-    requires places { n ≤ MOST_SAMPLES }
-    requires tick { IsTick clock.now n 600 second }
-    ensures { result ≡ tick_place clock.now n second }
-{
-    clock.place_of(second * NANOSECONDS_IN_SECOND, n)
 }
 
 // The first cycle boundary at the place or after it, by index.

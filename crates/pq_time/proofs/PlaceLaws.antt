@@ -8,7 +8,7 @@ use Rattle.std.proofs.lemmas.Int.{ints}
 use Rattle.pq_time.specs.declared.clock.Clock.{Clock}
 use Rattle.pq_time.specs.Time.{TellsPlaces, time_of, is_taken_by, place_of}
 use Rattle.pq_words.specs.First.{IsFirst}
-use Rattle.pq_words.proofs.FirstLaws.{first_by_neighbour, first_between_only}
+use Rattle.pq_words.proofs.FirstLaws.{first_by_neighbour, first_between_only, first_earlier}
 
 div_rises : (a b r : ℕ) → a ≤ b → a / r ≤ b / r
 div_rises a b r h = grind (arith, h)
@@ -109,3 +109,13 @@ pub passed_small : (i rate : ℕ) → i ≤ 50_000_000 → 800_000_000 ≤ rate 
 passed_small i rate few fast =
     let product : 800_000_000 * 62_500_000_000_000 ≤ rate * 62_500_000_000_000 = omega (arith, fast) in
     div-le_of_le-mul rate (omega (arith, few, product))
+
+-- ---- the place of a later moment is no earlier
+
+after_both : (a b c : ℤ) → a ≤ℤ b → int_le b c ≡ true → int_le a c ≡ true
+after_both a b c h is = grind (arith, ints, h, is)
+
+pub place_rises : (clock : Clock) (t u : ℤ) (n : ℕ) → t ≤ℤ u → place_of clock t n ≤ place_of clock u n
+unfolding place_of
+place_rises clock t u n h = first_earlier (is_taken_by clock t) (is_taken_by clock u) 0 n
+    (λ k. after_both t u _ h)

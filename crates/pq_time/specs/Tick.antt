@@ -4,7 +4,7 @@
 use Rattle.std.specs.Prelude.{◌≡◌, ◌⊎◌, ◌↔◌, ℕ, ◌*◌, ◌^◌, ◌≤◌, List, ℤ, pos, negsuc, neg_ℤ, ◌+ℤ◌, ◌-ℤ◌, ◌*ℤ◌, ◌≤ℤ◌, Contains}
 use Rattle.std.specs.Int.{int_div_euclid, int_rem_euclid}
 use Rattle.pq_time.specs.declared.clock.Clock.{Clock}
-use Rattle.pq_time.specs.Time.{time_of}
+use Rattle.pq_time.specs.Time.{place_of, time_of}
 use Rattle.pq_words.specs.Steps.{steps_from}
 
 -- the periods of ticks, in seconds: of frequency readings (5.1), and of 10-minute and 2-hour intervals (4.4,
@@ -26,6 +26,10 @@ pub record IsTick (clock : Clock) (n period : ℕ) (second : ℤ) : Type 0 where
 -- the list has the ticks of a period and nothing else
 abbrev pub HasTicks : Clock → ℕ → ℕ → List ℤ → Type 0
 HasTicks clock n period seconds = (second : ℤ) → Contains seconds second ↔ IsTick clock n period second
+
+-- the place of a tick, a UTC second, among n samples (profile)
+abbrev pub tick_place : Clock → ℕ → ℤ → ℕ
+tick_place clock n second = place_of clock (moment_of second) n
 
 -- z, or 0 where it is negative
 abbrev pub at_least_zero : ℤ → ℕ

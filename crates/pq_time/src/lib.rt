@@ -7,7 +7,7 @@ pub use clock::Clock;
 pub use laws::{places_by_neighbours, shows_moments};
 pub use moment::{read_moment, to_utc};
 pub use printed::print_moment;
-pub use ticks::Ticks;
+pub use ticks::{TEN_MINUTES, TEN_SECONDS, TWO_HOURS, Ticks};
 pub use time_code::{MOST_OFFSET, read_code};
 
 mod bad_moment;

@@ -1,13 +1,22 @@
 // The ticks of clock intervals.
-ghost use Rattle.std.specs.Prelude.{◌≡◌, ◌*◌, ◌^◌, ◌≤◌, length};
+ghost use Rattle.std.specs.Prelude.{◌≡◌, ◌*◌, ◌^◌, ◌≤◌, ◌≤ℤ◌, length};
 ghost use Rattle.std.specs.Iterator.{YieldsFirst, item_count};
-ghost use Rattle.pq_time.specs.Tick.{IsPeriod, HasTicks, count_between, first_period, last_period, seconds_between, ticks};
-ghost use Rattle.pq_time.specs.Time.{IsClock};
+ghost use Rattle.pq_time.specs.Tick.{IsPeriod, HasTicks, count_between, first_period, last_period, moment_of, seconds_between, tick_place, ticks};
+ghost use Rattle.pq_time.specs.Time.{IsClock, time_of};
 ghost use Rattle.pq_words.specs.Magnitude.{IsWithin};
 
 use crate::Clock;
 use pq_words::MOST_SAMPLES;
 use std::marker::Model;
+
+/// From one tick to the next of frequency readings, in seconds (IEC 61000-4-30:2015, 5.1).
+pub const TEN_SECONDS: u64 = 10;
+
+/// From one tick to the next of 10-minute intervals, in seconds (4.4, 4.5).
+pub const TEN_MINUTES: u64 = 600;
+
+/// From one tick to the next of 2-hour intervals, in seconds (4.5).
+pub const TWO_HOURS: u64 = 7200;
 
 const NANOSECONDS_IN_SECOND: i64 = 1_000_000_000;
 
@@ -49,6 +58,18 @@ impl Clock {
         let first = first_period(self.t0, period);
         let last = last_period(self.time_of(n), period);
         between(first, last, period)
+    }
+
+    /// The place of a tick, a UTC second, among `n` samples: the least of the places from 0 whose sample
+    /// is taken at the tick or after it, but at most `n`.
+    pub fn tick_place(&self, n: u64, second: i64) -> u64
+        requires clock { IsClock self.now }
+        requires places { n ≤ MOST_SAMPLES }
+        requires after { self.now.t0 ≤ℤ moment_of second }
+        requires before { moment_of second ≤ℤ time_of self.now n }
+        ensures { result ≡ tick_place self.now n second }
+    {
+        self.place_of(second * NANOSECONDS_IN_SECOND, n)
     }
 }
 

@@ -4,9 +4,9 @@ use Rattle.std.proofs.lemmas.List.Elements.{All-tail}
 use Rattle.std.proofs.lemmas.List.Filters.{dedup_is}
 use Rattle.std.specs.List.{dedup}
 use Rattle.pq_sequence.specs.BasicInterval.{front_of, fronts}
-use Rattle.pq_sequence.specs.MeasuredRecording.{tick_place, tick_places}
+use Rattle.pq_sequence.specs.MeasuredRecording.{tick_places}
 use Rattle.pq_sequence.proofs.FrontLemmas.{fronts_start, one_tick, places_rise}
-use Rattle.pq_time.specs.Tick.{IsTick, ticks}
+use Rattle.pq_time.specs.Tick.{IsTick, tick_place, ticks}
 use Rattle.ten_twelve.specs.Run.{AreStarts}
 use Rattle.pq_sequence.proofs.fronts.all_fronts.Goals as goal
 

@@ -1,7 +1,6 @@
 use Rattle.std.proofs.Common.{◌≡◌, ◌∷◌, ◌++◌, map, filter_map, All}
 use Rattle.pq_sequence.specs.BasicInterval.{front_of}
-use Rattle.pq_sequence.specs.MeasuredRecording.{tick_place}
-use Rattle.pq_time.specs.Tick.{IsTick, ticks}
+use Rattle.pq_time.specs.Tick.{IsTick, tick_place, ticks}
 use Rattle.pq_sequence.proofs.fronts.all_fronts.Given as goal
 
 -- the fronts so far, and those of the ticks that are left

@@ -1,5 +1,6 @@
 use Rattle.pq_sequence.specs.MeasuredRecording.{tick_places}
-use Rattle.pq_sequence.proofs.FrontLemmas.{front_rises, fronts_start, place_rises, places_rise}
+use Rattle.pq_sequence.proofs.FrontLemmas.{front_rises, fronts_start, places_rise}
+use Rattle.pq_time.proofs.PlaceLaws.{place_rises}
 use Rattle.pq_sequence.proofs.laws.fronts_rise.Goals as goal
 
 pub returns : goal.returns

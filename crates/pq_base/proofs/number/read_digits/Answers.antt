@@ -1,6 +1,6 @@
 use Rattle.std.proofs.Common.{arith, length}
 use Rattle.pq_base.proofs.DigitsLemmas.{power_le, below_fewer}
-use Rattle.pq_base.proofs.number.digits.Goals as goal
+use Rattle.pq_base.proofs.number.read_digits.Goals as goal
 
 pub with_digits-requires : goal.with_digits-requires
 with_digits-requires c = omega (arith, power_le (length c.args.text.now) 38 (omega arith))
