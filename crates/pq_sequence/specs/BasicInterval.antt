@@ -2,8 +2,8 @@
 -- each 10-minute tick (4.5, 5.2). That they begin at the first cycle boundary, what becomes of the interval
 -- over a tick, and that only whole intervals count, is profile.
 -- Sections are those of IEC 61000-4-30:2015; "profile" marks a choice of this project.
-use Rattle.std.specs.Prelude.{ℕ, ◌-◌, ◌<◌, ◌==◌, nat_le, if◌then◌else◌, List, ◌∷◌, length, filter_map, Option, slice_index}
-use Rattle.std.specs.List.{dedup}
+use Rattle.std.specs.Prelude.{ℕ, Bool, ◌-◌, ◌<◌, ◌==◌, nat_le, if◌then◌else◌, List, ◌∷◌, length, filter_map, Option, slice_index}
+use Rattle.std.specs.List.{dedup, list_any}
 use Rattle.pq_words.specs.First.{first_between}
 use Rattle.ten_twelve.specs.Run.{runs}
 use Rattle.ten_twelve.specs.declared.span.Span.{Span}
@@ -39,3 +39,7 @@ basic_span boundaries run = record {
   end =
       slice_index boundaries run.end;
 }
+
+-- a run of cycles is the first of a segment: it begins at one of the fronts (4.5)
+abbrev pub begins_segment : List ℕ → Span → Bool
+begins_segment fronts run = list_any (λ g. g == run.start) fronts

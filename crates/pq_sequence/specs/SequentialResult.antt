@@ -1,9 +1,11 @@
 -- The subject: the sequential result of a recording: all its items, in order.
 -- Sections are those of IEC 61000-4-30:2015; "profile" marks a choice of this project.
-use Rattle.std.specs.Prelude.{ℕ, Bool, nat_le, List, ◌++◌, map, flat_map, filter, length, slice_get, slice_index, slice_range}
+use Rattle.std.specs.Prelude.{ℕ, nat_le, List, ◌++◌, map, flat_map, filter, pos, slice_get, slice_index, unwrap_or}
 use Rattle.std.specs.Option.{option_map_or}
-use Rattle.pq_base.specs.Recorded.{Recorded, samples_at}
-use Rattle.fixed_rms.specs.Root.{rms}
+use Rattle.aggregate.specs.declared.group.Group.{Group}
+use Rattle.aggregate.specs.Aggregation.{Basic, Part, parts_of}
+use Rattle.freq10s.specs.declared.reading.Reading.{Reading}
+use Rattle.pq_base.specs.Recorded.{Recorded}
 use Rattle.pq_items.specs.declared.item.Item.{Item}
 use Rattle.pq_items.specs.declared.item.Item.TheVariants as item
 use Rattle.pq_items.specs.ItemOrder.{item_cmp}
@@ -13,38 +15,42 @@ use Rattle.event_detect.specs.declared.kind.Kind.{Kind}
 use Rattle.event_detect.specs.declared.kind.Kind.TheVariants.{Dip, Swell, Interruption}
 use Rattle.event_detect.specs.declared.limits.Limits.{Limits}
 use Rattle.event_detect.specs.Flag.{is_touched}
-use Rattle.pq_sequence.specs.BasicInterval.{basic_span, cycles_of}
-use Rattle.pq_sequence.specs.MeasuredRecording.{recorded_events, reference_cycles, runs_of}
+use Rattle.pq_sequence.specs.BasicInterval.{cycles_of}
+use Rattle.pq_sequence.specs.MeasuredRecording.{basics_of, positions, readings_of, recorded_events, reference_cycles, shorts_of, tens_of, two_hours_of}
 use Rattle.pq_words.specs.Sorted.{in_order}
-use Rattle.pq_words.specs.Steps.{numbers_below}
-use Rattle.ten_twelve.specs.declared.span.Span.{Span}
 
 -- the number of the channel at a position
 abbrev pub number_of : Recorded → ℕ → ℕ
 number_of r position = slice_index r.numbers position
 
--- the basic interval of the channel at a position, with its flag: the root of the channel's samples over the
--- span (5.2)
-abbrev pub basic_over : Recorded → ℕ → Span → Bool → Item
-basic_over r position span flagged =
-    item.Basic (number_of r position) span.start span.end (cycles_of r.lf)
-    (rms (slice_range (samples_at r position) span.start span.end)) flagged
+-- a reading as an item, flagged where some event touches its span (4.7; for frequency: profile)
+abbrev pub reading_item : List Event → Reading → Item
+reading_item events g =
+    item.Frequency g.tick g.start g.end g.cycles g.microhertz (is_touched events g.start g.end)
 
--- the positions of the channels
-abbrev pub positions : Recorded → List ℕ
-positions r = numbers_below (length r.numbers)
+-- an interval as the item of the channel at a position
+abbrev pub basic_item : Recorded → Part → ℕ → Item
+basic_item r part position =
+    item.Basic (number_of r position) part.start part.end (cycles_of r.lf) (slice_index part.values position)
+    part.flagged
 
--- the basic intervals of all channels over a span, flagged alike (4.7)
-abbrev pub basics_over : Recorded → Span → Bool → List Item
-basics_over r span flagged = map (λ position. basic_over r position span flagged) (positions r)
+abbrev pub short_item : Recorded → Group → ℕ → Item
+short_item r g position =
+    item.Short (number_of r position) g.start g.end (slice_index g.values position) g.flagged
 
--- they are flagged where some event of the whole recording, of any kind and channel, touches the span (4.7)
-abbrev pub basic_items : Recorded → List Event → Span → List Item
-basic_items r events span = basics_over r span (is_touched events span.start span.end)
+abbrev pub ten_item : Recorded → Group → ℕ → Item
+ten_item r g position =
+    item.Ten (number_of r position) (unwrap_or g.tick (pos 0)) g.start g.end g.count
+    (slice_index g.values position) g.flagged
 
--- the basic intervals of all channels over runs of cycles between the reference channel's boundaries (4.5)
-abbrev pub basics_of : Recorded → List Event → List ℕ → List Span → List Item
-basics_of r events boundaries runs = flat_map (λ run. basic_items r events (basic_span boundaries run)) runs
+abbrev pub two_hour_item : Recorded → Group → ℕ → Item
+two_hour_item r g position =
+    item.TwoHour (number_of r position) (unwrap_or g.tick (pos 0)) g.start g.end
+    (slice_index g.values position) g.flagged
+
+-- intervals as items, one a channel of each
+abbrev pub for_each_channel : {X : Type 0} → Recorded → (X → ℕ → Item) → List X → List Item
+for_each_channel r item_of intervals = flat_map (λ interval. map (item_of interval) (positions r)) intervals
 
 -- the event of a kind, with the number of its channel
 abbrev pub item_of_kind : Kind → ℕ → Event → Item
@@ -60,11 +66,23 @@ event_item r e = item_of_kind e.kind (number_of r e.channel) e
 abbrev pub event_items : Recorded → List Event → List Item
 event_items r events = map (event_item r) events
 
--- all items of a recording that has these events: the basic intervals of its channels, and the events
+-- the readings, the intervals of each length and channel, and the events, of a recording that has these
+-- readings, basic intervals and events
+abbrev pub items_over : Recorded → List Event → List Reading → List Basic → List Item
+items_over r events readings basics =
+    let tens = tens_of r basics in
+    map (reading_item events) readings
+    ++ for_each_channel r (basic_item r) (parts_of basics)
+    ++ for_each_channel r (short_item r) (shorts_of r basics)
+    ++ for_each_channel r (ten_item r) tens
+    ++ for_each_channel r (two_hour_item r) (two_hours_of r tens)
+    ++ event_items r events
+
+-- all items of a recording that has these events, kind by kind
 unfoldable pub items_under : Recorded → List Event → List Item
 items_under r events =
     let boundaries = reference_cycles r in
-    basics_of r events boundaries (runs_of r boundaries) ++ event_items r events
+    items_over r events (readings_of r boundaries) (basics_of r events boundaries)
 
 -- all items of a recording under the limits
 abbrev pub all_items : Recorded → Limits → List Item

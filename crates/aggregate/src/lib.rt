@@ -1,0 +1,6 @@
+//! Aggregation of basic intervals to 150/180-cycle, ten-minute and two-hour intervals.
+#![tactic(auto)]
+
+pub use group::{Group, Out};
+
+mod group;

@@ -1,0 +1,6 @@
+//! Frequency over ten seconds of the clock.
+#![tactic(auto)]
+
+pub use reading::Reading;
+
+mod reading;
