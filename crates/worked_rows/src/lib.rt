@@ -12,8 +12,6 @@ mod dats;
 #[cfg(test)]
 mod intervals;
 #[cfg(test)]
-mod outside;
-#[cfg(test)]
 mod program;
 #[cfg(test)]
 mod reports;
@@ -21,8 +19,6 @@ mod reports;
 mod sentences;
 #[cfg(test)]
 mod several_channels;
-#[cfg(test)]
-mod signal;
 #[cfg(test)]
 mod sixty_hertz;
 #[cfg(test)]

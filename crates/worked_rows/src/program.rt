@@ -1,11 +1,10 @@
 // The run of the program: its code, and the line that it tells.
-use crate::outside::strings;
 use crate::reports::HEADER;
-use crate::signal::{WORKED, cfg};
 use pq_base::{MemShelf, MemSink};
 use pq_run::{Streams, run};
 use std::alloc::Global;
 use std::test::Fail;
+use worked_signals::{WORKED, cfg, strings};
 
 // What a run gave.
 #[derive(Drop)]
