@@ -1,5 +1,4 @@
 pub mod BasicLemmas
-pub mod EventLemmas
 pub mod CutLaws
 pub mod FrontLemmas
 pub mod MergedLemmas

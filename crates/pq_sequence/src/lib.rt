@@ -9,11 +9,10 @@ pub use sequential::sequence;
 mod basics;
 mod clock;
 mod cycles;
-mod events;
 mod fronts;
 mod laws;
-mod merged;
 mod sequential;
 #[cfg(test)]
 mod tests;
 mod touches;
+mod windows;

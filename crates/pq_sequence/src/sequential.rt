@@ -12,13 +12,13 @@ ghost use Rattle.zero_cross.specs.Boundary.{AreBoundaries};
 use crate::basics::{basic_runs, push_basics};
 use crate::clock::clock_of;
 use crate::cycles::{cycle_boundaries, recorded_rule};
-use crate::events::all_events;
 use crate::fronts::all_fronts;
-use crate::merged::merged_windows;
+use crate::windows::channel_windows;
 use event_detect::{Event, Kind, Limits};
 use pq_base::{OutOfMemory, Recording};
 use pq_items::{Item, sort_items};
 use std::alloc::{AllocError, Global};
+use supply_events::supply_events;
 use ten_twelve::Span;
 
 /// All items of a recording, in order: the basic intervals of each channel over the cycles of the
@@ -63,7 +63,7 @@ fn all_items(
     Ok(items)
 }
 
-// The events of the whole recording, over the merged windows of its channels.
+// The events of the whole recording, over the windows of its channels.
 fn recorded_events(
     alloc: Global,
     recording: &Recording,
@@ -72,14 +72,8 @@ fn recorded_events(
     requires { IsInOrder limits.now }
     ensures { Gives result (events_of_recording recording.now limits.now) }
 {
-    let windows = merged_windows(alloc, recording)?;
-    all_events(
-        alloc,
-        &windows,
-        recording.channels(),
-        limits,
-        recording.len(),
-    )
+    let channels = channel_windows(alloc, recording)?;
+    supply_events(alloc, channels, limits, recording.len())
 }
 
 // The cycle boundaries of the reference channel.

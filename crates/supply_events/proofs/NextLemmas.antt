@@ -1,12 +1,11 @@
 -- The window that comes next, in the words of the law of merging.
 use Rattle.std.proofs.Common.{◌≡◌, ◌⊎◌, ℕ, zero, suc, ◌+◌, ◌<◌, ◌≤◌, List, [], ◌∷◌, length, map, All, Option, None, Some, option_and_then, slice_get, slice_index, slice_index_or, slice_set, refl, sym, ap, ◌∙◌, inl, inr, subst, arith}
 use Rattle.std.specs.List.{AllByRecursion}
-use Rattle.std.specs.List.Sorted.{IsStrictlyIncreasing}
 use Rattle.std.proofs.lemmas.Bool.{cases_lt}
 use Rattle.std.proofs.lemmas.List.Elements.{All-cons, All-head, All-tail}
 use Rattle.event_detect.specs.declared.window.Window.{Window}
 use Rattle.supply_events.specs.FirstStart.{AreOver, IsLeastFirst, Rise, first_start, start_of_first}
-use Rattle.polyphase.proofs.MergeStep.{FirstsAreNotBefore, IsFirstNotBefore, Rises, least_of_firsts, merge_step, merged_none, rest_rises, without_first}
+use Rattle.polyphase.proofs.MergeStep.{FirstsAreNotBefore, IsFirstNotBefore, Rises, least_of_firsts, merge_step, merged_none, without_first}
 use Rattle.polyphase.specs.PolyphaseEvent.{merged_windows}
 
 -- ---- no channel has a window

@@ -21,11 +21,7 @@ pub fn least(channels: &[Queue<'_>]) -> Option<usize>
 }
 
 // The channel at this position, where its next window starts before that of the one found so far.
-fn earlier(
-    found: Option<(usize, u64)>,
-    position: usize,
-    start: Option<u64>,
-) -> Option<(usize, u64)>
+fn earlier(found: Option<(usize, u64)>, position: usize, start: Option<u64>) -> Option<(usize, u64)>
     ensures { (channels : List (List SeenWindow)) → IsEarliest channels position found →
         first_start channels position ≡ start → IsEarliest channels (position + 1) result }
 {

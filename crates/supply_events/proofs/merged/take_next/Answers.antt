@@ -1,4 +1,4 @@
-use Rattle.std.proofs.Common.{◌≡◌, ◌∙◌, sym, subst}
+use Rattle.std.proofs.Common.{◌∙◌, sym, subst}
 use Rattle.supply_events.specs.FirstStart.{TakesNext}
 use Rattle.supply_events.proofs.NextLemmas.{got, not_over, nothing_left, one_taken, still_rise}
 use Rattle.supply_events.proofs.merged.take_next.Goals as goal
