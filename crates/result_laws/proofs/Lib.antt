@@ -7,3 +7,5 @@ pub mod GroupLaws
 pub mod TwoHourLaws
 pub mod ItemLists
 pub mod TwelveLaws
+pub mod MergedOrder
+pub mod KeyLaws

@@ -35,6 +35,11 @@ pub all_map : {X Y : Type 0} (P : Y → Type 0) (f : X → Y) (xs : List X) →
 all_map P f [] h = tt
 all_map P f (x ∷ xs) h = (h.0, all_map P f xs h.1)
 
+pub all_unmap : {X Y : Type 0} (P : Y → Type 0) (f : X → Y) (xs : List X) →
+    AllByRecursion P (map f xs) → AllByRecursion (λ x. P (f x)) xs
+all_unmap P f [] h = tt
+all_unmap P f (x ∷ xs) h = (h.0, all_unmap P f xs h.1)
+
 pub all_filter : {X : Type 0} (P : X → Type 0) (p : X → Bool) (xs : List X) → AllByRecursion P xs →
     AllByRecursion P (filter p xs)
 all_filter P p [] h = tt
@@ -98,6 +103,11 @@ pub pairwise_map : {X Y : Type 0} (R : Y → Y → Type 0) (f : X → Y) (xs : L
     Pairwise (λ a b. R (f a) (f b)) xs → Pairwise R (map f xs)
 pairwise_map R f [] h = tt
 pairwise_map R f (x ∷ xs) h = (all_map (R (f x)) f xs h.0, pairwise_map R f xs h.1)
+
+pub pairwise_unmap : {X Y : Type 0} (R : Y → Y → Type 0) (f : X → Y) (xs : List X) →
+    Pairwise R (map f xs) → Pairwise (λ a b. R (f a) (f b)) xs
+pairwise_unmap R f [] h = tt
+pairwise_unmap R f (x ∷ xs) h = (all_unmap (R (f x)) f xs h.0, pairwise_unmap R f xs h.1)
 
 pub pairwise_filter : {X : Type 0} (R : X → X → Type 0) (p : X → Bool) (xs : List X) → Pairwise R xs →
     Pairwise R (filter p xs)
