@@ -1,7 +1,6 @@
 -- The basic intervals of a recording: their starts rise, their ends do not fall, and a tick's place that one
 -- of them reaches has a first one of a segment soon after it.
-use Rattle.std.proofs.Common.{if◌then◌else◌, ◌≡◌, ◌⊎◌, ℕ, zero, suc, ◌+◌, ◌-◌, ◌<◌, ◌≤◌, ◌==◌, nat_le, Bool, true, false, List, [], ◌∷◌, length, map, filter_map, Option, Some, None, slice_index, AllPairs, IsTrue, refl, sym, ◌∙◌, ap, subst, inl, inr, arith}
-use Rattle.std.specs.List.{AllByRecursion}
+use Rattle.std.proofs.Common.{if◌then◌else◌, ◌≡◌, ℕ, ◌+◌, ◌-◌, ◌<◌, ◌≤◌, ◌==◌, nat_le, Bool, true, false, List, ◌∷◌, length, map, filter_map, Option, Some, None, slice_index, AllPairs, refl, ◌∙◌, ap, inl, inr, arith}
 use Rattle.std.proofs.lemmas.Bool.{cases_lt}
 use Rattle.std.proofs.lemmas.Bool.Decides.{nat_tests}
 use Rattle.std.proofs.lemmas.List.Kept.{AllPairs-from_increasing, Contains-dedup_nat}
@@ -11,7 +10,7 @@ use Rattle.pq_base.specs.Recorded.{Recorded, IsRecording, sample_count, samples_
 use Rattle.pq_sequence.specs.BasicInterval.{basic_span, begins_segment, cycles_of, front_of, fronts, basic_runs}
 use Rattle.pq_sequence.specs.MeasuredRecording.{basic_over, basics_of, basics_over, recorded_places, recorded_rule, reference_cycles, clock_of}
 use Rattle.pq_sequence.proofs.FrontLemmas.{fronts_start, places_rise}
-use Rattle.pq_words.specs.First.{FirstAt, IsFirst, Nowhere, first_between}
+use Rattle.pq_words.specs.First.{FirstAt, IsFirst, first_between}
 use Rattle.pq_words.proofs.FirstLaws.{first_between_is}
 use Rattle.ten_twelve.specs.Run.{begins_run, run_from, runs}
 use Rattle.zero_cross.specs.Boundary.{IsRule}
@@ -62,12 +61,14 @@ module _ (r : Recorded) (events : List Event) (cb places : List ℕ) (m : ℕ)
   basics_precede =
       let xs = run_indices (fronts cb places) m count in
       pairwise_map Precedes
-      (λ run. basic_over r events (basic_span cb run) (begins_segment (fronts cb places) run)) (map (run_from m) xs)
+      (λ run. basic_over r events (basic_span cb run) (begins_segment (fronts cb places) run))
+      (map (run_from m) xs)
       (pairwise_map
       (λ a b. Precedes (basic_over r events (basic_span cb a) (begins_segment (fronts cb places) a))
       (basic_over r events (basic_span cb b) (begins_segment (fronts cb places) b)))
       (run_from m) xs
-      (pairwise_all (λ x. x < count + 1 - m) (λ x y. x < y) (λ x y. Precedes (at_cycle x) (at_cycle y)) follow xs
+      (pairwise_all (λ x. x < count + 1 - m) (λ x y. x < y) (λ x y. Precedes (at_cycle x) (at_cycle y))
+      follow xs
       (indices_bound (fronts cb places) m count) (indices_rise (fronts cb places) m count)))
 
   -- what a basic interval is
@@ -76,20 +77,22 @@ module _ (r : Recorded) (events : List Event) (cb places : List ℕ) (m : ℕ)
   unfolding runs
   of_cycle b is =
       let xs = run_indices (fronts cb places) m count in
-      let run = of_map (λ run. basic_over r events (basic_span cb run) (begins_segment (fronts cb places) run)) b
+      let run = of_map (λ run. basic_over r events (basic_span cb run)
+      (begins_segment (fronts cb places) run)) b
       (map (run_from m) xs) is in
-      let x = of_map (run_from m) run.0 xs run.1 in
-      (
+      let x = of_map (run_from m) run.0 xs run.1 in (
         x.0,
         all_in (λ x. x < count + 1 - m) x.0 xs (indices_bound (fronts cb places) m count) x.1,
         run.2 ∙ ap (λ k. basic_over r events (basic_span cb k) (begins_segment (fronts cb places) k)) x.2,
       )
 
-  in_basics : (x : ℕ) → x < count + 1 - m → begins_run (fronts cb places) m x ≡ true → IsIn (at_cycle x) all_basics
+  in_basics : (x : ℕ) → x < count + 1 - m → begins_run (fronts cb places) m x ≡ true →
+      IsIn (at_cycle x) all_basics
   unfolding runs
   in_basics x inside begun =
       let xs = run_indices (fronts cb places) m count in
-      in_map (λ run. basic_over r events (basic_span cb run) (begins_segment (fronts cb places) run)) (run_from m x)
+      in_map (λ run. basic_over r events (basic_span cb run) (begins_segment (fronts cb places) run))
+      (run_from m x)
       (map (run_from m) xs)
       (in_map (run_from m) x xs
       (in_filter (begins_run (fronts cb places) m) x _
@@ -130,7 +133,8 @@ module _ (r : Recorded) (events : List Event) (cb places : List ℕ) (m : ℕ)
     in_fronts p g is found =
         contains_in g (fronts cb places)
         (Contains-dedup_nat (0 ∷ filter_map (front_of cb) places) g
-        (in_contains g (0 ∷ filter_map (front_of cb) places) (inr (in_filter_map (front_of cb) p g places is found))))
+        (in_contains g (0 ∷ filter_map (front_of cb) places)
+        (inr (in_filter_map (front_of cb) p g places is found))))
 
     has_front : (p : ℕ) → IsIn p places → HasFront all_basics p
     has_front p tick a b is_a is_b reached from =
@@ -147,8 +151,7 @@ module _ (r : Recorded) (events : List Event) (cb places : List ℕ) (m : ℕ)
         let before : g ≤ x.0 + m = no_later g (x.0 + m) p found.2 (omega (arith, reached, end_is)) in
         let is_front = in_fronts p g tick found.1 in
         let begun = begins_at_start (fronts cb places) m g some starts is_front in
-        let order = boundaries_order g (x.0 + m) before end_in in
-        (
+        let order = boundaries_order g (x.0 + m) before end_in in (
           at_cycle g,
           in_basics g (omega (arith, upto, in_y)) begun,
           found_in g (fronts cb places) is_front,

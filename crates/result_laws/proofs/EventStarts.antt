@@ -1,5 +1,5 @@
 -- The events of one kind begin one after another: each starts later than the one before it.
-use Rattle.std.proofs.Common.{◌≡◌, ◌⊎◌, ℕ, zero, suc, ◌+◌, ◌-◌, ◌<◌, ◌≤◌, ◌==◌, Bool, true, false, cond, ◌&&◌, ◌||◌, List, [], ◌∷◌, ◌++◌, length, get_or, map, take, reverse, find, Option, Some, None, option_map, slice_get, IsTrue, refl, sym, ◌∙◌, ap, subst, inl, inr, arith}
+use Rattle.std.proofs.Common.{◌≡◌, ◌⊎◌, ℕ, zero, suc, ◌+◌, ◌-◌, ◌<◌, ◌≤◌, ◌==◌, Bool, true, false, cond, ◌&&◌, ◌||◌, List, [], ◌∷◌, ◌++◌, length, get_or, map, take, reverse, find, Option, Some, None, option_map, slice_get, refl, sym, ◌∙◌, ap, subst, inl, inr, arith}
 use Rattle.std.specs.Bool.{⊤}
 use Rattle.std.specs.List.{AllByRecursion, enumerate_from, list_any, list_all}
 use Rattle.std.specs.Option.{option_map_or}
@@ -15,11 +15,11 @@ use Rattle.event_detect.specs.Threshold.{IsInOrder}
 use Rattle.event_detect.specs.VoltageEvent.{Condition, Extent, begins_at, ends_at, event_from, event_after, event_over, extents, events}
 use Rattle.event_detect.proofs.LimitLaws.{classes_apart}
 use Rattle.polyphase.specs.PolyphaseEvent.{ChannelWindow, latest, latest_values, begins, ends, condition_at, conditions, is_there_and, passes_if_there, polyphase_events, value_is_past, value_is_back}
-use Rattle.pq_words.specs.First.{FirstAt, IsFirst, Nowhere, first_between}
-use Rattle.pq_words.specs.Steps.{numbers_from, numbers_below}
+use Rattle.pq_words.specs.First.{FirstAt, IsFirst, first_between}
+use Rattle.pq_words.specs.Steps.{numbers_from}
 use Rattle.pq_words.specs.Successors.{successors}
 use Rattle.pq_words.proofs.FirstLaws.{first_between_is}
-use Rattle.result_laws.proofs.PairLaws.{Pairwise, all_each, all_map, all_weaker, pairwise_at, pairwise_map}
+use Rattle.result_laws.proofs.PairLaws.{Pairwise, all_weaker, pairwise_at, pairwise_map}
 
 -- ---- events, one after another
 
@@ -346,7 +346,8 @@ module _ (kind : Kind) (limits : Limits) (channels : ℕ) (ms : List ChannelWind
       (w.0, omega (arith, after), inside, w.1, sym (ends_told k w.0 w.1) ∙ first.passes)
 
   -- where none has begun before index i, none has before the first that begins from it on
-  not_begun : (i j : ℕ) → begun i ≡ false → BeginsAt (conditions kind limits channels ms) i j → begun j ≡ false
+  not_begun : (i j : ℕ) → begun i ≡ false → BeginsAt (conditions kind limits channels ms) i j →
+      begun j ≡ false
   not_begun i zero fresh is =
       let cs = conditions kind limits channels ms in
       let after = (first_at (begins_at cs) i (length cs) zero is).after in
@@ -396,8 +397,10 @@ module _ (channels : ℕ) (ms : List ChannelWindow) (past back : ℕ → Bool)
       apart found.0 found.2 (ap (passes_if_there back) (sym found.1) ∙ is_back))
 
   -- the window that begins an event is of a channel that is past, and before the end it has another
-  own_window : (j k : ℕ) (m : ChannelWindow) → slice_get ms j ≡ Some m → some_pass channels ms past j ≡ false →
-      some_pass channels ms past (j + 1) ≡ true → j < k → k < length ms → all_there_pass channels ms back (k + 1) ≡ true →
+  own_window : (j k : ℕ) (m : ChannelWindow) → slice_get ms j ≡ Some m →
+      some_pass channels ms past j ≡ false →
+      some_pass channels ms past (j + 1) ≡ true → j < k → k < length ms →
+      all_there_pass channels ms back (k + 1) ≡ true →
       HasWindow ms m.channel (j + 1) (k + 1)
   own_window j k m there before begun less inside end =
       let found = any_in (is_there_and past) (latest ms (j + 1)) 0 channels begun in
@@ -437,7 +440,8 @@ module _ (channels : ℕ) (ms : List ChannelWindow) (past back : ℕ → Bool)
 module _ (channels : ℕ) (ms : List ChannelWindow) (past back : ℕ → Bool)
     (apart : (v : ℕ) → past v ≡ true → back v ≡ true → ⊥) where
   -- the channel that ends the event has a window before its end, and one more before the next beginning
-  two_windows : (j k next : ℕ) → all_pass channels ms past (j + 1) ≡ true → j < k → k < next → next < length ms →
+  two_windows : (j k next : ℕ) → all_pass channels ms past (j + 1) ≡ true → j < k → k < next →
+      next < length ms →
       some_pass channels ms back (k + 1) ≡ true → all_pass channels ms past (next + 1) ≡ true →
       (c : ℕ) × HasWindow ms c (j + 1) (k + 1) × HasWindow ms c (k + 1) (next + 1)
   two_windows j k next begun less later inside end begun_next =
@@ -531,7 +535,8 @@ module _ (limits : Limits) (channels : ℕ) (ms : List ChannelWindow) (order : P
             let new = begun_at kind limits channels ms (k + 1) next is in
             let after = new.1 in
             let inside = slice_get_within ms next new.0 new.2 in
-            let w = two_windows channels ms past back apart j k next (sym (begins_is (j + 1)) ∙ first.3) last.1
+            let w = two_windows channels ms past back apart j k next (sym (begins_is (j + 1)) ∙ first.3)
+            last.1
             (omega (arith, after)) inside (sym (ends_is (k + 1)) ∙ last.4)
             (sym (begins_is (next + 1)) ∙ new.3) in
             let a = w.1 in

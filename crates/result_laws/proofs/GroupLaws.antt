@@ -1,26 +1,24 @@
 -- Where the intervals of more than one basic interval start and end.
-use Rattle.std.proofs.Common.{◌≡◌, ◌⊎◌, ℕ, zero, suc, ◌+◌, ◌-◌, ◌<◌, ◌≤◌, ◌==◌, ◌&&◌, ◌||◌, nat_lt, nat_le, Bool, true, false, cond, List, [], ◌∷◌, length, map, find, zip, drop, take, filter_map, ℤ, pos, ◌+ℤ◌, ◌≤ℤ◌, Option, Some, None, option_map, option_and_then, unwrap_or, slice_get, slice_range, IsTrue, refl, sym, ◌∙◌, ap, subst, inl, inr, arith}
-use Rattle.std.specs.List.{AllByRecursion, list_any, cons_option}
+use Rattle.std.proofs.Common.{◌≡◌, ℕ, zero, suc, ◌+◌, ◌-◌, ◌<◌, ◌≤◌, ◌&&◌, ◌||◌, nat_lt, nat_le, Bool, true, false, cond, List, [], ◌∷◌, length, map, find, drop, take, ℤ, pos, ◌+ℤ◌, ◌≤ℤ◌, Option, Some, None, option_map, option_and_then, unwrap_or, slice_get, slice_range, refl, sym, ◌∙◌, ap, subst, inl, inr, arith}
+use Rattle.std.specs.List.{AllByRecursion, list_any}
 use Rattle.std.specs.Option.{option_map_or}
 use Rattle.std.specs.Ordering.{int_eq}
 use Rattle.std.proofs.lemmas.Bool.{cases_lt}
 use Rattle.std.proofs.lemmas.Bool.Decides.{nat_tests, Decides-int_eq}
-use Rattle.std.proofs.lemmas.Int.{ints}
 use Rattle.std.proofs.lemmas.List.{length-map, length-take, length-drop}
 use Rattle.std.proofs.lemmas.Option.{cond_some, same_Some, slice_get-map, slice_get_cases, slice_get_within}
 use Rattle.aggregate.specs.declared.group.Group.{Group}
-use Rattle.aggregate.specs.Aggregation.{Basic, Part, as_part, group_of, has_tick, is_front_from, parts_of, reaches, segment_at, segment_end, segment_of, segment_starts, short_groups, ten_group, ten_groups, tick_pairs, two_hour_group, two_hour_groups}
+use Rattle.aggregate.specs.Aggregation.{Basic, Part, group_of, has_tick, is_front_from, parts_of, reaches, segment_at, segment_end, segment_of, segment_starts, short_groups, ten_group, ten_groups, tick_pairs}
 use Rattle.pq_time.specs.declared.clock.Clock.{Clock}
 use Rattle.pq_time.specs.Tick.{tick_place, ticks}
-use Rattle.pq_words.specs.First.{FirstAt, IsFirst, first_between}
-use Rattle.pq_words.specs.Steps.{steps_from}
+use Rattle.pq_words.specs.First.{FirstAt, first_between}
 use Rattle.ten_twelve.specs.declared.span.Span.{Span}
 use Rattle.ten_twelve.specs.Run.{run_from, runs}
 use Rattle.result_laws.proofs.BasicRuns.{HasFront, Precedes}
 use Rattle.result_laws.proofs.EventStarts.{first_at}
 use Rattle.result_laws.proofs.NumberLaws.{indices_bound, indices_rise, run_indices}
-use Rattle.result_laws.proofs.PairLaws.{IsIn, Pairwise, all_in, all_weaker, at_in, in_at, of_filter_map, of_find, pairwise_all, pairwise_at, pairwise_filter_map, pairwise_map}
-use Rattle.result_laws.proofs.TickPairs.{IsTickPair, each_tick_apart, tick_rises, ticks_apart, ticks_next}
+use Rattle.result_laws.proofs.PairLaws.{IsIn, Pairwise, all_in, at_in, in_at, of_filter_map, of_find, pairwise_all, pairwise_at, pairwise_filter_map, pairwise_map}
+use Rattle.result_laws.proofs.TickPairs.{IsTickPair, tick_rises, ticks_apart, ticks_next}
 
 -- ---- a part of a list, by index
 
@@ -80,7 +78,8 @@ pub group_end : (tick : Option ℤ) (channels : ℕ) (bs : List Basic) (a b : �
 unfolding group_of
 group_end tick channels bs a b some inside =
     let range = slice_range bs a b in
-    let many : length (parts_of range) ≡ b - a = length-map range (λ b. b.part) ∙ length_range bs a b inside in
+    let many : length (parts_of range) ≡ b - a =
+    length-map range (λ b. b.part) ∙ length_range bs a b inside in
     let last : a + (b - a - 1) ≡ b - 1 = omega (arith, some) in
     ap (λ n. option_map_or (λ p. p.end) (slice_get (parts_of range) (n - 1)) 0) many
     ∙ ap (λ o. option_map_or (λ p. p.end) o 0) (slice_get-map (λ b. b.part) range (b - a - 1))
@@ -251,10 +250,12 @@ module _ (clock : Clock) (n channels : ℕ) (bs : List Basic) (precede : Pairwis
       let ends = end_in k below in
       let some = ends.0 in
       let until = ends.1 in
-      let is = cond_some (reaches (parts_of range) place) (group_of (Some tick) channels (parts_of range)) g e in
+      let is = cond_some (reaches (parts_of range) place) (group_of (Some tick) channels (parts_of range)) g
+      e in
       let found = any_at (λ p. nat_lt p.start place && nat_le place p.end) (parts_of range) is.0 in
       let i = found.0 in
-      let basic = is_some_map (slice_get range i) found.1 (sym (slice_get-map (λ b. b.part) range i) ∙ found.2) in
+      let basic = is_some_map (slice_get range i) found.1
+      (sym (slice_get-map (λ b. b.part) range i) ∙ found.2) in
       let x = basic.0 in
       let within : i < j - k =
       let h = slice_get_within range i x basic.1 in omega (arith, h, length_range bs k j until) in
@@ -371,13 +372,15 @@ module _ (clock : Clock) (n channels : ℕ) (bs : List Basic) (precede : Pairwis
     pub ten : IsTen clock n bs t (t +ℤ pos 600) g
     pub next_tick : IsIn (t +ℤ pos 600) (ticks clock n 600)
 
-  pub found_ten : (t : ℤ) (g : Group) → find (has_tick t) (ten_groups clock n channels bs) ≡ Some g → IsFound t g
+  pub found_ten : (t : ℤ) (g : Group) → find (has_tick t) (ten_groups clock n channels bs) ≡ Some g →
+      IsFound t g
   unfolding ten_groups
   found_ten t g e =
       let is = of_find (has_tick t) g (ten_groups clock n channels bs) e in
       let pair = of_filter_map (λ p. ten_group clock n channels bs p.0 p.1) g (tick_pairs clock n 600) is.0 in
       let p = pair.0 in
-      let next = all_in (IsTickPair 600 (ticks clock n 600)) p (tick_pairs clock n 600) (ticks_next clock n 600)
+      let next = all_in (IsTickPair 600 (ticks clock n 600)) p (tick_pairs clock n 600)
+      (ticks_next clock n 600)
       pair.1 in
       let ten = is_ten p.0 p.1 g pair.2 in
       let same : p.0 ≡ t = same_Some p.0 t (sym ten.tick_is ∙ tick_of_has t g is.1) in

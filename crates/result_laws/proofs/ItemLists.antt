@@ -1,8 +1,7 @@
 -- The lists of which the items of a recording are joined, kind by kind.
-use Rattle.std.proofs.Common.{◌≡◌, ◌⊎◌, ℕ, zero, suc, ◌+◌, ◌<◌, ◌≤◌, List, [], ◌∷◌, ◌++◌, length, map, flat_map, Contains, refl, sym, ◌∙◌, ap, subst, inl, inr, arith}
+use Rattle.std.proofs.Common.{◌≡◌, ℕ, ◌≤◌, List, ◌++◌, map, Contains, refl, inl, inr, arith}
 use Rattle.std.specs.List.{AllByRecursion}
 use Rattle.std.proofs.lemmas.List.Sorted.{Contains-permutation, IsPermutation-sym}
-use Rattle.aggregate.specs.declared.group.Group.{Group}
 use Rattle.aggregate.specs.Aggregation.{Basic, parts_of}
 use Rattle.event_detect.specs.declared.event.Event.{Event}
 use Rattle.event_detect.specs.declared.kind.Kind.{Kind}
@@ -13,9 +12,8 @@ use Rattle.pq_base.specs.Recorded.{Recorded}
 use Rattle.pq_items.specs.declared.item.Item.{Item}
 use Rattle.pq_items.specs.ItemOrder.{item_cmp}
 use Rattle.pq_items.specs.ItemTable.{rank_of}
-use Rattle.pq_sequence.specs.MeasuredRecording.{basics_of, positions, readings_of, recorded_events, reference_cycles, shorts_of, tens_of, two_hours_of}
-use Rattle.pq_sequence.specs.SequentialResult.{all_items, basic_item, event_item, event_items, for_each_channel, item_of_kind, items_over, items_under, number_of, reading_item, sequential, short_item, ten_item, two_hour_item}
-use Rattle.pq_words.specs.Sorted.{in_order}
+use Rattle.pq_sequence.specs.MeasuredRecording.{positions, shorts_of, tens_of, two_hours_of}
+use Rattle.pq_sequence.specs.SequentialResult.{all_items, basic_item, event_item, event_items, for_each_channel, item_of_kind, items_over, number_of, reading_item, sequential, short_item, ten_item, two_hour_item}
 use Rattle.pq_words.proofs.SortedLaws.{in_order_permutes}
 use Rattle.result_laws.proofs.PairLaws.{IsIn, all_each, all_flat_map, all_in, all_map, contains_in, in_append, in_append_left, in_append_right, in_contains}
 
@@ -26,14 +24,16 @@ unfolding sequential
 result_in r limits i is =
     contains_in i (all_items r limits)
     (Contains-permutation (sequential r limits) (all_items r limits) i
-    (IsPermutation-sym (all_items r limits) (sequential r limits) (in_order_permutes item_cmp (all_items r limits)))
+    (IsPermutation-sym (all_items r limits) (sequential r limits)
+    (in_order_permutes item_cmp (all_items r limits)))
     is)
 
 pub in_result : (r : Recorded) (limits : Limits) (i : Item) → IsIn i (all_items r limits) →
     Contains (sequential r limits) i
 unfolding sequential
 in_result r limits i is =
-    Contains-permutation (all_items r limits) (sequential r limits) i (in_order_permutes item_cmp (all_items r limits))
+    Contains-permutation (all_items r limits) (sequential r limits) i
+    (in_order_permutes item_cmp (all_items r limits))
     (in_contains i (all_items r limits) is)
 
 -- ---- ranks
@@ -53,7 +53,8 @@ event_rank Dip number e = omega arith
 event_rank Swell number e = omega arith
 event_rank Interruption number e = omega arith
 
-pub event_ranks : (r : Recorded) (events : List Event) → AllByRecursion (λ i. 5 ≤ rank_of i) (event_items r events)
+pub event_ranks : (r : Recorded) (events : List Event) →
+    AllByRecursion (λ i. 5 ≤ rank_of i) (event_items r events)
 event_ranks r events =
     all_map (λ i. 5 ≤ rank_of i) (event_item r) events
     (all_each (λ e. 5 ≤ rank_of (event_item r e))
@@ -86,7 +87,8 @@ module _ (r : Recorded) (events : List Event) (readings : List Reading) (basics 
           | inr here ↦ here
           | inl more ↦ elim (in_append i (a ++ b ++ c) d more) [
             | inr ten ↦
-                let no = all_in (λ i. rank_of i ≡ 3) i d (channel_ranks r (ten_item r) 3 (λ x p. refl) tens) ten in
+                let no = all_in (λ i. rank_of i ≡ 3) i d (channel_ranks r (ten_item r) 3 (λ x p. refl) tens)
+                ten in
                 absurd (omega (arith, no, rank))
             | inl less ↦ elim (in_append i (a ++ b) c less) [
               | inr short ↦

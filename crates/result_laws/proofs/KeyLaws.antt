@@ -1,5 +1,5 @@
 -- No two items of a result have one key.
-use Rattle.std.proofs.Common.{◌≡◌, ◌⊎◌, ℕ, zero, suc, ◌+◌, ◌-◌, ◌<◌, ◌≤◌, ◌&&◌, nat_le, Bool, true, false, cond, List, [], ◌∷◌, ◌++◌, length, map, filter, flat_map, zip, drop, ℤ, ◌≤ℤ◌, Option, Some, None, slice_index, AllPairs, refl, sym, ◌∙◌, ap, subst, inl, inr, arith}
+use Rattle.std.proofs.Common.{◌≡◌, ℕ, ◌+◌, ◌<◌, ◌≤◌, ◌&&◌, nat_le, Bool, true, false, List, [], ◌∷◌, ◌++◌, length, map, filter, flat_map, ℤ, ◌≤ℤ◌, Option, Some, AllPairs, refl, sym, ◌∙◌, ap, arith}
 use Rattle.std.specs.List.{AllByRecursion}
 use Rattle.std.specs.List.Sorted.{IsStrictlyIncreasing}
 use Rattle.std.proofs.lemmas.Bool.Decides.{nat_tests}
@@ -15,16 +15,16 @@ use Rattle.event_detect.specs.declared.limits.Limits.{Limits}
 use Rattle.event_detect.specs.Threshold.{IsInOrder}
 use Rattle.event_detect.specs.VoltageEvent.{event_over, events, extents}
 use Rattle.freq10s.specs.declared.reading.Reading.{Reading}
-use Rattle.freq10s.specs.Frequency.{boundaries_within, reading_of, readings}
+use Rattle.freq10s.specs.Frequency.{reading_of, readings}
 use Rattle.polyphase.specs.PolyphaseEvent.{ChannelWindow, all_polyphase_events, conditions, kinds, polyphase_events}
 use Rattle.pq_base.specs.Recorded.{Recorded, IsRecording, sample_count}
 use Rattle.pq_items.specs.declared.item.Item.{Item}
-use Rattle.pq_items.specs.ItemOrder.{Key, item_cmp, key_of}
+use Rattle.pq_items.specs.ItemOrder.{Key, item_cmp}
 use Rattle.pq_items.specs.ItemTable.{channel_of, rank_of, start_of}
 use Rattle.pq_sequence.specs.MeasuredRecording.{basics_of, clock_of, positions, readings_of, recorded_events, recorded_windows, reference_cycles, shorts_of, tens_of, two_hours_of}
-use Rattle.pq_sequence.specs.SequentialResult.{all_items, basic_item, event_item, event_items, for_each_channel, item_of_kind, items_over, items_under, number_of, reading_item, sequential, short_item, ten_item, two_hour_item}
+use Rattle.pq_sequence.specs.SequentialResult.{all_items, basic_item, event_item, event_items, for_each_channel, item_of_kind, items_under, number_of, reading_item, sequential, short_item, ten_item, two_hour_item}
 use Rattle.pq_time.specs.declared.clock.Clock.{Clock}
-use Rattle.pq_time.specs.Tick.{tick_place, ticks}
+use Rattle.pq_time.specs.Tick.{tick_place}
 use Rattle.result_laws.specs.DistinctKeys.{KeysAreDistinct, KeysDiffer}
 use Rattle.result_laws.proofs.BasicRuns.{Precedes, cycles_rise, recorded_precede}
 use Rattle.result_laws.proofs.EventStarts.{IsBefore, events_rise}
@@ -126,8 +126,7 @@ module _ (clock : Clock) (n : ℕ) (cb : List ℕ) (rising : AllPairs (λ a b. a
   reading_span t p q g e =
       let test : ℕ → Bool = λ b. nat_le p b && nat_le b q in
       let within = filter test cb in
-      let parts = cond_some (nat_le 2 (length within)) _ g e in
-      (
+      let parts = cond_some (nat_le 2 (length within)) _ g e in (
         sym (ap (λ (x : Reading). x.start) parts.1),
         two_within p q within
             (pairwise_filter (λ (a b : ℕ). a < b) test cb (pairs_pairwise (λ (a b : ℕ). a < b) cb rising))
@@ -217,8 +216,7 @@ module _ (r : Recorded) (limits : Limits) (count n : ℕ) (ms : List ChannelWind
   events_apart =
       pairwise_map KeysDiffer (event_item r) (flat_map of_kind kinds)
       (pairwise_flat_map EventsDiffer of_kind kinds
-      (one_kind Dip, (one_kind Swell, (one_kind Interruption, tt)))
-      (
+      (one_kind Dip, (one_kind Swell, (one_kind Interruption, tt))) (
         (two_kinds Dip Swell (omega arith), (two_kinds Dip Interruption (omega arith), tt)),
         ((two_kinds Swell Interruption (omega arith), tt), (tt, tt)),
       ))
@@ -284,7 +282,8 @@ module _ (r : Recorded) (limits : Limits) (is : IsRecording r) (sound : IsInOrde
       (tens_of r measured)
       (tens_rise (clock_of r) (sample_count r) (length r.numbers) measured (recorded_precede r found is))
 
-  twos_apart : Pairwise KeysDiffer (for_each_channel r (two_hour_item r) (two_hours_of r (tens_of r measured)))
+  twos_apart : Pairwise KeysDiffer
+      (for_each_channel r (two_hour_item r) (two_hours_of r (tens_of r measured)))
   twos_apart =
       intervals_apart r is.rising (two_hour_item r) (λ (g : Group). g.start) (λ x p. refl) (λ x p. refl)
       (two_hours_of r (tens_of r measured))
@@ -308,14 +307,16 @@ module _ (r : Recorded) (limits : Limits) (is : IsRecording r) (sound : IsInOrde
       let two : AreApart 2 (a ++ b) =
       join 1 a b one basics_apart (channel_ranks r (basic_item r) 1 (λ x p. refl) (parts_of measured)) in
       let three : AreApart 3 (a ++ b ++ c) =
-      join 2 (a ++ b) c two shorts_apart (channel_ranks r (short_item r) 2 (λ x p. refl) (shorts_of r measured)) in
+      join 2 (a ++ b) c two shorts_apart
+      (channel_ranks r (short_item r) 2 (λ x p. refl) (shorts_of r measured)) in
       let four : AreApart 4 (a ++ b ++ c ++ d) =
       join 3 (a ++ b ++ c) d three tens_apart (channel_ranks r (ten_item r) 3 (λ x p. refl) tens) in
       let five : AreApart 5 (a ++ b ++ c ++ d ++ e) =
       join 4 (a ++ b ++ c ++ d) e four twos_apart
       (channel_ranks r (two_hour_item r) 4 (λ x p. refl) (two_hours_of r tens)) in
       pairwise_append KeysDiffer (a ++ b ++ c ++ d ++ e) f five.apart
-      (events_apart r limits (length r.numbers) (sample_count r) (recorded_windows r) (recorded_before r is) sound)
+      (events_apart r limits (length r.numbers) (sample_count r) (recorded_windows r) (recorded_before r is)
+      sound)
       (across 5 (a ++ b ++ c ++ d ++ e) f five.below (event_ranks r found))
 
 pub keys_distinct : KeysAreDistinct

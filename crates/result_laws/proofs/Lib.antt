@@ -9,3 +9,4 @@ pub mod ItemLists
 pub mod TwelveLaws
 pub mod MergedOrder
 pub mod KeyLaws
+mod StandardFacts

@@ -1,7 +1,6 @@
 -- The merged windows of a recording: each stands before the later ones, and those of one channel start one
 -- after another.
-use Rattle.std.proofs.Common.{◌≡◌, ◌⊎◌, ℕ, zero, suc, ◌+◌, ◌<◌, ◌≤◌, Bool, true, false, List, [], ◌∷◌, ◌++◌, length, map, sym, ◌∙◌, ap, inl, inr, arith, Less}
-use Rattle.std.specs.Bool.{⊤}
+use Rattle.std.proofs.Common.{◌≡◌, ℕ, ◌+◌, ◌<◌, ◌≤◌, Bool, true, false, List, [], ◌∷◌, map, sym, ◌∙◌, ap, inl, inr, arith, Less}
 use Rattle.std.specs.Cmp.{IsStrictWeakOrder, nat_cmp_is}
 use Rattle.std.specs.List.{AllByRecursion}
 use Rattle.std.specs.Ordering.{is_lt, nat_cmp, ordering_then}
@@ -21,7 +20,8 @@ use Rattle.result_laws.proofs.PairLaws.{Pairwise, all_append, all_each, all_map,
 
 -- ---- in order
 
-rising_pairs : {X : Type 0} (lt : X → X → Bool) (xs : List X) → Rising lt xs → Pairwise (λ x y. lt y x ≡ false) xs
+rising_pairs : {X : Type 0} (lt : X → X → Bool) (xs : List X) → Rising lt xs →
+    Pairwise (λ x y. lt y x ≡ false) xs
 rising_pairs lt [] h = tt
 rising_pairs lt (x ∷ xs) h = (h.0, rising_pairs lt xs h.1)
 
@@ -86,7 +86,8 @@ merged_before xs rise =
       strict = λ same. strictly a b order (apart same);
     })
     (merged_windows xs)
-    (pairwise_weaker (λ a b. is_lt (merged_cmp b a) ≡ false) (λ a b. a.window.start ≤ b.window.start) starts_order
+    (pairwise_weaker (λ a b. is_lt (merged_cmp b a) ≡ false) (λ a b. a.window.start ≤ b.window.start)
+    starts_order
     (merged_windows xs)
     (rising_pairs (λ x y. is_lt (merged_cmp x y)) (merged_windows xs)
     (in_order_rises merged_cmp weak (joined_from 0 xs))))

@@ -1,10 +1,10 @@
 -- Numbers one after another, and the indices at which runs begin.
-use Rattle.std.proofs.Common.{◌≡◌, ◌⊎◌, ℕ, zero, suc, ◌+◌, ◌-◌, ◌%◌, ◌<◌, ◌≤◌, ◌==◌, ◌||◌, nat_le, Bool, true, false, cond, List, [], ◌∷◌, length, map, filter, Option, Some, None, refl, sym, ◌∙◌, ap, subst, inl, inr, arith, mod-eq_of_lt}
+use Rattle.std.proofs.Common.{◌≡◌, ℕ, zero, suc, ◌+◌, ◌-◌, ◌%◌, ◌<◌, ◌≤◌, ◌==◌, ◌||◌, nat_le, Bool, true, false, cond, List, [], ◌∷◌, filter, Option, Some, None, refl, sym, ◌∙◌, ap, subst, inl, inr, arith, mod-eq_of_lt}
 use Rattle.std.specs.List.{AllByRecursion, last_or, list_any}
 use Rattle.std.specs.Option.{option_map_or}
 use Rattle.std.proofs.lemmas.Bool.{cases_lt}
 use Rattle.std.proofs.lemmas.Bool.Decides.{nat_tests}
-use Rattle.ten_twelve.specs.Run.{begins_run, latest_start}
+use Rattle.ten_twelve.specs.Run.{begins_run}
 use Rattle.pq_words.specs.Steps.{numbers_from, numbers_below}
 use Rattle.result_laws.proofs.PairLaws.{IsIn, Pairwise, all_filter, all_in, pairwise_filter}
 
@@ -52,7 +52,8 @@ indices_rise starts m count =
 pub numbers_bound : (low n most : ℕ) → low + n ≤ most → AllByRecursion (λ x. x < most) (numbers_from low n)
 unfolding numbers_from
 numbers_bound low zero most until = tt
-numbers_bound low (suc n) most until = (omega (arith, until), numbers_bound (low + 1) n most (omega (arith, until)))
+numbers_bound low (suc n) most until =
+    (omega (arith, until), numbers_bound (low + 1) n most (omega (arith, until)))
 
 pub indices_bound : (starts : List ℕ) (m count : ℕ) →
     AllByRecursion (λ x. x < count + 1 - m) (run_indices starts m count)
@@ -78,7 +79,8 @@ latest_is : (o : Option ℕ) (starts : List ℕ) (g : ℕ) → Pairwise (λ a b.
     last_or o (filter (λ s. nat_le s g) starts) ≡ Some g
 latest_is o [] g rise is = absurd is
 latest_is o (z ∷ zs) g rise (inl same) =
-    let bound : AllByRecursion (λ y. g < y) zs = subst (λ k. AllByRecursion (λ y. k < y) zs) (sym same) rise.0 in
+    let bound : AllByRecursion (λ y. g < y) zs =
+    subst (λ k. AllByRecursion (λ y. k < y) zs) (sym same) rise.0 in
     let passes : nat_le z g ≡ true = le_is z g (omega (arith, same)) in
     ap (λ b. last_or o (cond b (z ∷ filter (λ s. nat_le s g) zs) (filter (λ s. nat_le s g) zs))) passes
     ∙ ap (last_or (Some z)) (past_fails g zs bound) ∙ ap Some (sym same)

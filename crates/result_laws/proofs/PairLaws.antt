@@ -1,5 +1,5 @@
 -- Lists in which each element stands to every later one in some way, and members of lists.
-use Rattle.std.proofs.Common.{◌≡◌, ◌⊎◌, ℕ, zero, suc, ◌+◌, ◌<◌, Bool, true, false, cond, List, [], ◌∷◌, ◌++◌, length, get_or, map, filter, filter_map, flat_map, find, Option, Some, None, slice_get, All, AllPairs, Contains, refl, sym, ◌∙◌, ap, subst, inl, inr, arith}
+use Rattle.std.proofs.Common.{◌≡◌, ◌⊎◌, ℕ, zero, suc, ◌<◌, Bool, true, false, cond, List, [], ◌∷◌, ◌++◌, length, get_or, map, filter, filter_map, flat_map, find, Option, Some, None, slice_get, AllPairs, Contains, refl, sym, ◌∙◌, ap, subst, inl, inr, arith}
 use Rattle.std.specs.Bool.{⊤}
 use Rattle.std.specs.List.{AllByRecursion, cons_option}
 use Rattle.std.specs.Ordering.{is_lt}
@@ -315,10 +315,14 @@ in_at x [] i there = absurd (let bad : ⊥ = cc in bad)
 in_at x (z ∷ zs) zero there = inl (sym (same_Some z x there))
 in_at x (z ∷ zs) (suc i) there = inr (in_at x zs i there)
 
-pub at_in : {X : Type 0} (x : X) (xs : List X) → IsIn x xs → (i : ℕ) × (i < length xs) × (slice_get xs i ≡ Some x)
+pub at_in : {X : Type 0} (x : X) (xs : List X) → IsIn x xs →
+    (i : ℕ) × (i < length xs) × (slice_get xs i ≡ Some x)
 at_in x [] is = absurd is
 at_in x (z ∷ zs) (inl same) = (0, omega arith, ap Some (sym same))
-at_in x (z ∷ zs) (inr later) = let r = at_in x zs later in let inside = r.1 in (suc r.0, omega (arith, inside), r.2)
+at_in x (z ∷ zs) (inr later) =
+    let r = at_in x zs later in
+    let inside = r.1 in
+    (suc r.0, omega (arith, inside), r.2)
 
 pub in_contains : {X : Type 0} (x : X) (xs : List X) → IsIn x xs → Contains xs x
 in_contains x [] is = absurd is

@@ -1,5 +1,5 @@
 -- Ticks and their places: each with the next, as they follow one another.
-use Rattle.std.proofs.Common.{◌≡◌, ℕ, zero, suc, ◌+◌, ◌*◌, ◌^◌, ◌≤◌, List, [], ◌∷◌, zip, drop, map, ℤ, pos, ◌+ℤ◌, ◌*ℤ◌, ◌≤ℤ◌, refl, ap, subst, sym, arith, inl, inr}
+use Rattle.std.proofs.Common.{◌≡◌, ℕ, zero, suc, ◌≤◌, List, [], ◌∷◌, zip, drop, ℤ, pos, ◌+ℤ◌, ◌≤ℤ◌, refl, arith, inl, inr}
 use Rattle.std.specs.List.{AllByRecursion}
 use Rattle.std.proofs.lemmas.Int.{ints}
 use Rattle.aggregate.specs.Aggregation.{tick_pairs}
@@ -7,7 +7,7 @@ use Rattle.pq_time.specs.declared.clock.Clock.{Clock}
 use Rattle.pq_time.specs.Tick.{moment_of, tick_place, ticks}
 use Rattle.pq_time.proofs.PlaceLaws.{place_rises}
 use Rattle.pq_words.specs.Steps.{steps_from}
-use Rattle.result_laws.proofs.PairLaws.{IsIn, Pairwise, all_both, all_weaker}
+use Rattle.result_laws.proofs.PairLaws.{IsIn, Pairwise, all_weaker}
 
 -- the place of a later tick is no earlier
 pub tick_rises : (clock : Clock) (n : ℕ) (t u : ℤ) → t ≤ℤ u → tick_place clock n t ≤ tick_place clock n u
@@ -40,8 +40,7 @@ unfolding steps_from
 pairs_next low s zero = tt
 pairs_next low s (suc zero) = tt
 pairs_next low s (suc (suc n)) =
-    let all = steps_from (low +ℤ pos s) s (suc n) in
-    (
+    let all = steps_from (low +ℤ pos s) s (suc n) in (
       (refl, inr (inl refl)),
       all_weaker (IsTickPair s all) (IsTickPair s (low ∷ all)) (λ p h. (h.0, inr h.1)) (zip all (drop 1 all))
           (pairs_next (low +ℤ pos s) s (suc n)),
@@ -61,8 +60,7 @@ unfolding steps_from
 pairs_apart low s zero = tt
 pairs_apart low s (suc zero) = tt
 pairs_apart low s (suc (suc n)) =
-    let all = steps_from (low +ℤ pos s) s (suc n) in
-    (
+    let all = steps_from (low +ℤ pos s) s (suc n) in (
       pairs_above (low +ℤ pos s) (low +ℤ pos s) s (suc n) (drop 1 all) (omega (arith, ints)),
       pairs_apart (low +ℤ pos s) s (suc n),
     )

@@ -1,5 +1,5 @@
 -- A 2-hour item of a result is made of twelve 10-minute items of it.
-use Rattle.std.proofs.Common.{◌≡◌, ◌⊎◌, ℕ, zero, suc, ◌+◌, ◌-◌, ◌<◌, ◌≤◌, ◌||◌, nat_lt, Bool, true, false, cond, List, [], ◌∷◌, ◌++◌, length, map, flat_map, Contains, ℤ, pos, ◌+ℤ◌, Option, Some, None, option_map, unwrap_or, IfSome, slice_get, slice_index, All, refl, sym, ◌∙◌, ap, subst, inl, inr, arith, if◌then◌else◌}
+use Rattle.std.proofs.Common.{◌≡◌, ℕ, zero, suc, ◌+◌, ◌-◌, ◌<◌, ◌||◌, nat_lt, Bool, true, cond, List, [], ◌∷◌, length, map, Contains, ℤ, pos, ◌+ℤ◌, Some, option_map, unwrap_or, IfSome, slice_get, slice_index, All, refl, sym, ◌∙◌, ap, subst, arith}
 use Rattle.std.specs.List.{AllByRecursion, list_any}
 use Rattle.std.specs.Option.{option_map_or}
 use Rattle.std.proofs.lemmas.Bool.Decides.{nat_tests}
@@ -15,8 +15,8 @@ use Rattle.pq_base.specs.Recorded.{Recorded, IsRecording, sample_count}
 use Rattle.pq_items.specs.declared.item.Item.{Item}
 use Rattle.pq_items.specs.declared.item.Item.TheVariants.{TwoHour}
 use Rattle.pq_items.specs.ItemTable.{channel_of, start_of, end_of, tick_of, value_of, has_mark}
-use Rattle.pq_sequence.specs.MeasuredRecording.{basics_of, clock_of, positions, readings_of, recorded_events, recorded_places, reference_cycles, tens_of, tick_places, two_hours_of}
-use Rattle.pq_sequence.specs.SequentialResult.{all_items, for_each_channel, items_under, number_of, sequential, ten_item, two_hour_item}
+use Rattle.pq_sequence.specs.MeasuredRecording.{basics_of, clock_of, positions, readings_of, recorded_events, reference_cycles, tens_of, tick_places, two_hours_of}
+use Rattle.pq_sequence.specs.SequentialResult.{items_under, number_of, sequential, ten_item, two_hour_item}
 use Rattle.pq_time.specs.Tick.{tick_place, ticks}
 use Rattle.pq_words.specs.Steps.{numbers_from, numbers_below, steps_from}
 use Rattle.result_laws.specs.TwelveTenMinutes.{AreTwelve, HaveNoGap, IsTenMinutes, LastsFrom, TwoHoursHaveTwelve}
@@ -24,7 +24,7 @@ use Rattle.result_laws.proofs.BasicRuns.{HasFront, Precedes, recorded_fronts, re
 use Rattle.result_laws.proofs.ItemLists.{in_result, in_tens, of_two_hours, result_in}
 use Rattle.result_laws.proofs.NumberLaws.{numbers_bound}
 use Rattle.result_laws.proofs.PairLaws.{IsIn, Pairwise, all_in, all_map, all_weaker, in_flat_map, in_map, of_filter_map, of_flat_map, of_map}
-use Rattle.result_laws.proofs.TwoHourLaws.{AreFound, IsTwoHours, all_there, no_gaps, two_hours_of_tens}
+use Rattle.result_laws.proofs.TwoHourLaws.{AreFound, all_there, no_gaps, two_hours_of_tens}
 
 -- the value of a group by position
 root_at : (h : ℕ → ℕ) (low n i : ℕ) → i < n → slice_index (map h (numbers_from low n)) i ≡ h (low + i)
@@ -47,18 +47,21 @@ module _ (r : Recorded) (p : ℕ) where
   items gs = map (λ g. ten_item r g p) gs
 
   starts_told : (gs : List Group) (k : ℕ) → k < length gs →
-      option_map start_of (slice_get (items gs) k) ≡ Some (option_map_or (λ q. q.start) (slice_get (map as_part gs) k) 0)
+      option_map start_of (slice_get (items gs) k)
+      ≡ Some (option_map_or (λ q. q.start) (slice_get (map as_part gs) k) 0)
   starts_told [] k inside = absurd (omega (arith, inside))
   starts_told (g ∷ gs) zero inside = refl
   starts_told (g ∷ gs) (suc k) inside = starts_told gs k (omega (arith, inside))
 
   ends_told : (gs : List Group) (k : ℕ) → k < length gs →
-      option_map end_of (slice_get (items gs) k) ≡ Some (option_map_or (λ q. q.end) (slice_get (map as_part gs) k) 0)
+      option_map end_of (slice_get (items gs) k)
+      ≡ Some (option_map_or (λ q. q.end) (slice_get (map as_part gs) k) 0)
   ends_told [] k inside = absurd (omega (arith, inside))
   ends_told (g ∷ gs) zero inside = refl
   ends_told (g ∷ gs) (suc k) inside = ends_told gs k (omega (arith, inside))
 
-  values_told : (gs : List Group) → map (λ q. slice_index q.values p) (map as_part gs) ≡ map value_of (items gs)
+  values_told : (gs : List Group) →
+      map (λ q. slice_index q.values p) (map as_part gs) ≡ map value_of (items gs)
   values_told [] = refl
   values_told (g ∷ gs) = ap (λ vs. slice_index g.values p ∷ vs) (values_told gs)
 
@@ -77,9 +80,11 @@ module _ (r : Recorded) (p : ℕ) where
     ticks_told t [] h = refl
     ticks_told t (g ∷ gs) h =
         let here : unwrap_or g.tick (pos 0) ≡ t = ap (λ o. unwrap_or o (pos 0)) h.0.ten.tick_is in
-        ap (λ s. Some s ∷ map tick_of (items gs)) here ∙ ap (λ ts. Some t ∷ ts) (ticks_told (t +ℤ pos 600) gs h.1)
+        ap (λ s. Some s ∷ map tick_of (items gs)) here
+        ∙ ap (λ ts. Some t ∷ ts) (ticks_told (t +ℤ pos 600) gs h.1)
 
-    lasting_told : (t : ℤ) (gs : List Group) → AreFound (clock_of r) (sample_count r) channels bs precede t gs →
+    lasting_told : (t : ℤ) (gs : List Group) →
+        AreFound (clock_of r) (sample_count r) channels bs precede t gs →
         AllByRecursion (λ ten. IfSome (tick_of ten) (λ s. LastsFrom r s ten)) (items gs)
     lasting_told t [] h = tt
     lasting_told t (g ∷ gs) h =
@@ -138,8 +143,7 @@ module _ (r : Recorded) (limits : Limits) (is : IsRecording r) where
       ≡ root_mean (map (λ q. slice_index q.values p) parts) =
       root_at (channel_root channels parts) 0 16 p (omega (arith, inside, few))
       ∙ ap (channel_root channels parts) zero_p
-      ∙ ap (λ b. cond b (root_mean (map (λ q. slice_index q.values p) parts)) 0) here in
-      (
+      ∙ ap (λ b. cond b (root_mean (map (λ q. slice_index q.values p) parts)) 0) here in (
         items r p gs,
         record {
           twelve = length-map gs (λ g. ten_item r g p) ∙ twelve;
@@ -148,20 +152,24 @@ module _ (r : Recorded) (limits : Limits) (is : IsRecording r) where
               (all_weaker (λ h. IsIn h (ten_groups clock n channels measured))
               (λ h. Contains (sequential r limits) (ten_item r h p))
               (λ h there. in_result r limits (ten_item r h p)
-              (in_tens r (recorded_events r limits) (readings_of r (reference_cycles r)) measured (ten_item r h p)
-              (in_flat_map (λ x. map (ten_item r x) (positions r)) h (ten_item r h p) (tens_of r measured) there
+              (in_tens r (recorded_events r limits) (readings_of r (reference_cycles r)) measured
+              (ten_item r h p)
+              (in_flat_map (λ x. map (ten_item r x) (positions r)) h (ten_item r h p) (tens_of r measured)
+              there
               (in_map (ten_item r h) p (positions r) position))))
               gs (all_there clock n channels measured precede u gs found)));
           kind = subst (λ c. All (IsTenMinutes c) (items r p gs)) (sym number)
               (All-from_recursion (IsTenMinutes (number_of r p)) (items r p gs) (kinds_told r p gs));
           ticks = ticks_told r p channels measured precede u gs found
-              ∙ ap (λ m. map Some (steps_from u 600 m)) twelve ∙ ap (λ t. map Some (steps_from t 600 12)) tick_is;
+              ∙ ap (λ m. map Some (steps_from u 600 m)) twelve
+              ∙ ap (λ t. map Some (steps_from t 600 12)) tick_is;
           lasting = All-from_recursion (λ ten. IfSome (tick_of ten) (λ s. LastsFrom r s ten)) (items r p gs)
               (lasting_told r p channels measured precede u gs found);
           no_gap = λ k item next at after. gap gs u precede found k item next at after;
           first = starts_told r p gs 0 (omega (arith, twelve)) ∙ ap Some start_is;
           last = ends_told r p gs 11 (omega (arith, twelve))
-              ∙ ap (λ k. Some (option_map_or (λ q. q.end) (slice_get parts k) 0)) (sym last_is) ∙ ap Some end_is;
+              ∙ ap (λ k. Some (option_map_or (λ q. q.end) (slice_get parts k) 0)) (sym last_is)
+              ∙ ap Some end_is;
           root = ap value_of e ∙ ap (λ (z : Group). slice_index z.values p) (sym group) ∙ rooted
               ∙ ap root_mean (values_told r p gs);
           flag = ap has_mark e ∙ ap (λ (z : Group). z.flagged) (sym group) ∙ flags_told r p gs;
@@ -190,7 +198,8 @@ module _ (r : Recorded) (limits : Limits) (is : IsRecording r) where
   unfolding items_under two_hour_groups
   made_of_twelve channel tick start end value flagged there =
       let item = TwoHour channel tick start end value flagged in
-      let two = of_two_hours r (recorded_events r limits) (readings_of r (reference_cycles r)) measured item refl
+      let two = of_two_hours r (recorded_events r limits) (readings_of r (reference_cycles r)) measured item
+      refl
       (result_in r limits item there) in
       let group = of_flat_map (λ x. map (two_hour_item r x) (positions r)) item
       (two_hours_of r (tens_of r measured)) two in

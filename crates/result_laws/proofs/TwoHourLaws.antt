@@ -1,19 +1,18 @@
 -- The 10-minute intervals that a 2-hour interval contains.
-use Rattle.std.proofs.Common.{◌≡◌, ℕ, zero, suc, ◌+◌, ◌-◌, ◌<◌, ◌≤◌, ◌==◌, Bool, true, false, cond, List, [], ◌∷◌, length, map, find, filter_map, ℤ, pos, ◌+ℤ◌, ◌≤ℤ◌, Option, Some, None, slice_get, refl, sym, ◌∙◌, ap, subst, arith}
+use Rattle.std.proofs.Common.{◌≡◌, ℕ, zero, suc, ◌<◌, ◌≤◌, ◌==◌, true, List, [], ◌∷◌, length, map, find, filter_map, ℤ, pos, ◌+ℤ◌, ◌≤ℤ◌, Option, Some, None, slice_get, refl, ap, subst, arith}
 use Rattle.std.specs.Bool.{⊤}
 use Rattle.std.specs.List.{AllByRecursion, cons_option}
-use Rattle.std.specs.Option.{option_map_or}
 use Rattle.std.proofs.lemmas.Bool.Decides.{nat_tests}
 use Rattle.std.proofs.lemmas.Int.{ints}
-use Rattle.std.proofs.lemmas.Option.{cond_some, same_Some, slice_get-map}
+use Rattle.std.proofs.lemmas.Option.{cond_some, same_Some}
 use Rattle.aggregate.specs.declared.group.Group.{Group}
 use Rattle.aggregate.specs.Aggregation.{Basic, as_part, group_of, has_tick, ten_groups, two_hour_group, two_hour_groups}
 use Rattle.pq_time.specs.declared.clock.Clock.{Clock}
 use Rattle.pq_time.specs.Tick.{tick_place, ticks}
 use Rattle.pq_words.specs.Steps.{steps_from}
 use Rattle.result_laws.proofs.BasicRuns.{HasFront, Precedes}
-use Rattle.result_laws.proofs.GroupLaws.{IsFound, IsTen, found_ten, no_gap}
-use Rattle.result_laws.proofs.PairLaws.{IsIn, Pairwise, all_weaker, pairwise_filter_map}
+use Rattle.result_laws.proofs.GroupLaws.{IsFound, found_ten, no_gap}
+use Rattle.result_laws.proofs.PairLaws.{IsIn, Pairwise, pairwise_filter_map}
 use Rattle.result_laws.proofs.TickPairs.{each_tick_apart, tick_rises}
 
 filter_map_most : (f : ℤ → Option Group) (xs : List ℤ) → length (filter_map f xs) ≤ length xs
@@ -92,7 +91,8 @@ module _ (clock : Clock) (n channels : ℕ) (bs : List Basic) (precede : Pairwis
   no_gaps fronts t [] found k g h at next = absurd (let bad : ⊥ = cc in bad)
   no_gaps fronts t (x ∷ []) found zero g h at next = absurd (let bad : ⊥ = cc in bad)
   no_gaps fronts t (x ∷ y ∷ gs) found zero g h at next =
-      let bound = no_gap clock n channels bs precede t (t +ℤ pos 600) (t +ℤ pos 600 +ℤ pos 600) x y found.0.ten
+      let bound = no_gap clock n channels bs precede t (t +ℤ pos 600) (t +ℤ pos 600 +ℤ pos 600) x y
+      found.0.ten
       found.1.0.ten (fronts (t +ℤ pos 600) found.0.next_tick) in
       let end : x.end ≡ g.end = ap (λ (z : Group). z.end) (same_Some x g at) in
       let start : y.start ≡ h.start = ap (λ (z : Group). z.start) (same_Some y h next) in

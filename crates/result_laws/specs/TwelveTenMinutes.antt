@@ -22,8 +22,8 @@ pub record IsTenMinutes (channel : ℕ) (ten : Item) : Type 0 where
 abbrev pub place_in : Recorded → ℤ → ℕ
 place_in r tick = tick_place (clock_of r) (sample_count r) tick
 
--- an item lasts from a tick to the next 10-minute tick: it begins at the tick's place or after it, and ends at
--- the next tick's place or after it (4.5; which basic intervals it has: profile)
+-- an item lasts from a tick to the 10-minute tick after it: it begins at the tick's place or after it, and
+-- ends at the next one's place or after it (4.5; which basic intervals it has: profile)
 pub record LastsFrom (r : Recorded) (tick : ℤ) (item : Item) : Type 0 where
   pub begins : place_in r tick ≤ start_of item
   pub ends : place_in r (tick +ℤ pos 600) ≤ end_of item
@@ -36,8 +36,8 @@ HaveNoGap items = (k : ℕ) (item next : Item) → slice_get items k ≡ Some it
 -- these items make up a 2-hour item of a result, of the channel and the tick
 pub record AreTwelve (r : Recorded) (result : List Item) (channel : ℕ) (tick : ℤ) (start end value : ℕ)
     (flagged : Bool) (tens : List Item) : Type 0 where
-  -- they are twelve 10-minute items of the result and of the channel, of the tick and of the eleven ticks after
-  -- it (4.5)
+  -- they are twelve 10-minute items of the result and of the channel: that of the tick, and those of the
+  -- eleven 10-minute ticks after it (4.5)
   pub twelve : length tens ≡ 12
   pub there : All (Contains result) tens
   pub kind : All (IsTenMinutes channel) tens
