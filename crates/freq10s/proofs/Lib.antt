@@ -1,0 +1,4 @@
+pub mod CycleLaws
+pub mod IntervalLaws
+pub mod ReadingLaws
+mod StandardFacts

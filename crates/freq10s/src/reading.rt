@@ -1,7 +1,7 @@
 // A frequency reading.
 
 /// The frequency over a 10-second interval of the clock (IEC 61000-4-30:2015, 5.1).
-#[derive(Clone, Copy)]
+#[derive(Clone, Copy, Debug, PartialEq, Eq)]
 pub struct Reading {
     /// The tick at which the interval begins, a UTC second.
     pub tick: i64,
