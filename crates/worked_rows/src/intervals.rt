@@ -1,5 +1,5 @@
 // The command `intervals` on worked recordings, on cfgs and dats that are refused, and on calls that fail.
-use crate::outside::{Outside, WHOLE, run};
+use crate::outside::{Outside, WHOLE, run, run_analyse};
 use crate::reports::{
     ALL_ZERO, AT_THRESHOLD, BELOW_THRESHOLD, HALVED, HEADER, ONE_ROW, OVER_TICK, TWO_ROWS,
 };
@@ -10,6 +10,8 @@ use std::alloc::{AllocError, Global};
 use std::test::Fail;
 
 const WORDS: [&str; 5] = ["intervals", "--udin", "230000", "a.cfg", "a.dat"];
+
+const ANALYSE: [&str; 5] = ["analyse", "--udin", "230000", "a.cfg", "a.dat"];
 
 // The worked cfg, at the half of a second before noon that puts noon at place 594.
 const BEFORE_NOON: Written<'static> = Written {
@@ -33,7 +35,7 @@ const BELOW: Signal = Signal::Stepped {
     after: 10_580,
 };
 
-// Recordings of worked signals, in pieces of every size.
+// Recordings of worked signals, in pieces of every size, and by `analyse`.
 #[test]
 fn worked_recordings(rt: HostRuntime) -> Result<(), Fail> {
     let alloc = rt.alloc();
@@ -60,6 +62,9 @@ fn worked_recordings(rt: HostRuntime) -> Result<(), Fail> {
             assert_eq!(rt; ran.status, Status::Done, "{samples} samples");
             assert_eq!(rt; ran.taken.as_slice(), text.as_bytes(), "{samples} samples");
         }
+        let ran = run_analyse(&rt, alloc, &ANALYSE, Some(&cfg), Some(&bytes), WHOLE)?;
+        assert_eq!(rt; ran.status, Status::Done, "{samples} samples");
+        assert_eq!(rt; ran.taken.as_slice(), text.as_bytes(), "{samples} samples");
     }
     Ok(())
 }
