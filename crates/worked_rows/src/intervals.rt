@@ -6,9 +6,11 @@ use comtrade_cfg::Quantity;
 use pq_run::{DatFault, Status};
 use std::alloc::{AllocError, Global};
 use std::test::Fail;
-use worked_signals::{Outside, Signal, WHOLE, WORKED, Written, cfg, dat, one_channel, run};
+use worked_signals::{Outside, Signal, WHOLE, WORKED, Written, cfg, dat, one_channel, run, run_analyse};
 
 const WORDS: [&str; 5] = ["intervals", "--udin", "230000", "a.cfg", "a.dat"];
+
+const ANALYSE: [&str; 5] = ["analyse", "--udin", "230000", "a.cfg", "a.dat"];
 
 // The worked cfg, at the half of a second before noon that puts noon at place 594.
 const BEFORE_NOON: Written<'static> = Written {
@@ -32,7 +34,7 @@ const BELOW: Signal = Signal::Stepped {
     after: 10_580,
 };
 
-// Recordings of worked signals, in pieces of every size.
+// Recordings of worked signals, in pieces of every size, and by `analyse`.
 #[test]
 fn worked_recordings(rt: HostRuntime) -> Result<(), Fail> {
     let alloc = rt.alloc();
@@ -59,6 +61,9 @@ fn worked_recordings(rt: HostRuntime) -> Result<(), Fail> {
             assert_eq!(rt; ran.status, Status::Done, "{samples} samples");
             assert_eq!(rt; ran.taken.as_slice(), text.as_bytes(), "{samples} samples");
         }
+        let ran = run_analyse(&rt, alloc, &ANALYSE, Some(&cfg), Some(&bytes), WHOLE)?;
+        assert_eq!(rt; ran.status, Status::Done, "{samples} samples");
+        assert_eq!(rt; ran.taken.as_slice(), text.as_bytes(), "{samples} samples");
     }
     Ok(())
 }

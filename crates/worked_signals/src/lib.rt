@@ -2,7 +2,7 @@
 //! made of.
 #![tactic(auto)]
 
-pub use outside::{Outcome, Outside, WHOLE, run, strings};
+pub use outside::{Outcome, Outside, WHOLE, run, run_analyse, strings};
 pub use signal::{Signal, dat, push_head};
 pub use written::{WORKED, Written, cfg, one_channel};
 

@@ -1,7 +1,10 @@
-// A run of the top call over a shelf and a sink in memory.
+// A run of a top call over a shelf and a sink in memory.
+use lane_workers::OpenGate;
 use pq_base::{MemShelf, MemSink, OutOfMemory};
-use pq_run::{Status, still};
+use pq_run::{Status, analyse, still};
 use std::alloc::{AllocError, Global};
+use std::sync::Wait;
+use std::thread::Threads;
 
 /// How the outside behaves: which calls fail, and how large a piece is.
 #[derive(Clone, Copy)]
@@ -36,7 +39,7 @@ pub fn strings(alloc: Global, words: &[&str]) -> Result<Vec<String>, AllocError>
     Ok(strings)
 }
 
-/// Runs the words over the files `a.cfg` and `a.dat`, which are there where they are given.
+/// Runs the words by `still` over the files `a.cfg` and `a.dat`, which are there where they are given.
 pub fn run(
     alloc: Global,
     words: &[&str],
@@ -44,6 +47,36 @@ pub fn run(
     dat: Option<&[u8]>,
     outside: Outside<'_>,
 ) -> Result<Outcome, OutOfMemory> {
+    let mut shelf = shelf_with(alloc, cfg, dat, outside)?;
+    let mut sink = sink_with(alloc, outside)?;
+    let status = still(alloc, &strings(alloc, words)?, &mut shelf, &mut sink);
+    let taken = sink.taken().to_vec(alloc)?;
+    Ok(Outcome { status, taken })
+}
+
+/// The same by `analyse`.
+pub fn run_analyse<R: Threads + Wait + Sync>(
+    rt: &R,
+    alloc: Global,
+    words: &[&str],
+    cfg: Option<&[u8]>,
+    dat: Option<&[u8]>,
+    outside: Outside<'_>,
+) -> Result<Outcome, OutOfMemory> {
+    let mut shelf = shelf_with(alloc, cfg, dat, outside)?;
+    let mut sink = sink_with(alloc, outside)?;
+    let words = strings(alloc, words)?;
+    let status = analyse(rt, alloc, &words, &mut shelf, &mut sink, &OpenGate);
+    let taken = sink.taken().to_vec(alloc)?;
+    Ok(Outcome { status, taken })
+}
+
+fn shelf_with(
+    alloc: Global,
+    cfg: Option<&[u8]>,
+    dat: Option<&[u8]>,
+    outside: Outside<'_>,
+) -> Result<MemShelf, OutOfMemory> {
     let mut files = Vec::new(alloc);
     if let Some(cfg) = cfg {
         files.push((String::from_str(alloc, "a.cfg")?, cfg.to_vec(alloc)?))?;
@@ -51,12 +84,12 @@ pub fn run(
     if let Some(dat) = dat {
         files.push((String::from_str(alloc, "a.dat")?, dat.to_vec(alloc)?))?;
     }
-    let read_fails = outside.read_fails.to_vec(alloc)?;
-    let write_fails = outside.write_fails.to_vec(alloc)?;
-    let mut shelf = MemShelf::new(files, read_fails, outside.read_piece.max(1));
+    let fails = outside.read_fails.to_vec(alloc)?;
+    Ok(MemShelf::new(files, fails, outside.read_piece.max(1)))
+}
+
+fn sink_with(alloc: Global, outside: Outside<'_>) -> Result<MemSink, OutOfMemory> {
+    let fails = outside.write_fails.to_vec(alloc)?;
     let room = 500_000;
-    let mut sink = MemSink::new(alloc, room, write_fails, outside.write_piece.max(1))?;
-    let status = still(alloc, &strings(alloc, words)?, &mut shelf, &mut sink);
-    let taken = sink.taken().to_vec(alloc)?;
-    Ok(Outcome { status, taken })
+    Ok(MemSink::new(alloc, room, fails, outside.write_piece.max(1))?)
 }
