@@ -6,7 +6,9 @@ use comtrade_cfg::Quantity;
 use pq_run::{DatFault, Status};
 use std::alloc::{AllocError, Global};
 use std::test::Fail;
-use worked_signals::{Outside, Signal, WHOLE, WORKED, Written, cfg, dat, one_channel, run, run_analyse};
+use worked_signals::{
+    Outside, Signal, WHOLE, WORKED, Written, cfg, dat, one_channel, run, run_analyse,
+};
 
 const WORDS: [&str; 5] = ["intervals", "--udin", "230000", "a.cfg", "a.dat"];
 

@@ -18,7 +18,10 @@ pub enum Signal {
     Halved,
     /// A square of 11,500 counts, 24 samples a cycle, with other counts in the cycle from place 264 on, and
     /// others after it.
-    Stepped { then: i16, after: i16 },
+    Stepped {
+        then: i16,
+        after: i16,
+    },
     /// A square of 7,000 counts of so many samples a cycle, that rises at a place, with other counts from a
     /// place up to another.
     Square {
@@ -37,13 +40,7 @@ impl Signal {
         match self {
             Signal::Sine => sine,
             Signal::Zero => 0,
-            Signal::Halved => {
-                if 264 <= i && i < 312 {
-                    sine / 2
-                } else {
-                    sine
-                }
-            }
+            Signal::Halved => { if 264 <= i && i < 312 { sine / 2 } else { sine } }
             Signal::Stepped { then, after } => stepped(i, then, after),
             Signal::Square {
                 period,
@@ -96,7 +93,8 @@ fn stepped(i: u32, then: i16, after: i16) -> i16 {
 // Of a square that rises at a place below its period.
 fn square(i: u32, period: u32, rises: u32, size: i16) -> i16 {
     let period = period.max(1);
-    let phase = (u64::from(i) + u64::from(period) - u64::from(rises.min(period))) % u64::from(period);
+    let phase = (u64::from(i) + u64::from(period) - u64::from(rises.min(period)))
+        % u64::from(period);
     if phase < u64::from(period / 2) {
         size
     } else {
