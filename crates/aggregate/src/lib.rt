@@ -4,3 +4,4 @@
 pub use group::{Group, Out};
 
 mod group;
+mod sum;

@@ -1,0 +1,57 @@
+-- What contracts see of an aggregator, over the basic intervals that it was fed.
+use Rattle.std.specs.Prelude.{◌≡◌, ℕ, List, [], ◌∷◌, ◌++◌, option_to_list}
+use Rattle.aggregate.specs.declared.group.Out.{Out}
+use Rattle.aggregate.specs.Aggregation.{Basic, short_groups, ten_groups, two_hour_groups}
+use Rattle.aggregate.specs.BasicOrder.{AreBasics}
+use Rattle.aggregate.specs.ShortSums.{ShortView}
+use Rattle.aggregate.specs.TenSum.{TenView, HasSeen as HasSeenBasics}
+use Rattle.aggregate.specs.TwoHourSum.{TwoHourView, HasSeen as HasSeenTens}
+use Rattle.pq_time.specs.declared.clock.Clock.{Clock}
+
+-- an aggregator: when the samples are taken, how many there are and of how many channels, and its machines
+pub record AggregatorView : Type 0 where
+  pub clock : Clock
+  pub samples : ℕ
+  pub channels : ℕ
+  pub short : ShortView
+  pub ten : TenView
+  pub two : TwoHourView
+
+-- an aggregator has seen these basic intervals
+pub record HasSeen (a : AggregatorView) (fed : List Basic) : Type 0 where
+  pub ten : HasSeenBasics a.ten fed
+  pub two : HasSeenTens a.two (ten_groups a.clock a.samples a.channels fed)
+
+-- a list that an aggregator may be fed
+abbrev pub IsFed : AggregatorView → List Basic → Type 0
+IsFed a fed = AreBasics a.clock a.samples a.channels fed
+
+-- the basic interval may follow some list that the aggregator has seen
+abbrev pub MayFollow : AggregatorView → Basic → Type 0
+MayFollow a b = (fed : List Basic) × HasSeen a fed × IsFed a (fed ++ b ∷ [])
+
+-- what one more basic interval completes, of each length, if anything
+pub record AddsAtLast (a : AggregatorView) (fed : List Basic) (b : Basic) (out : Out) : Type 0 where
+  pub short : short_groups a.channels (fed ++ b ∷ [])
+      ≡ short_groups a.channels fed ++ option_to_list out.short
+  pub ten : ten_groups a.clock a.samples a.channels (fed ++ b ∷ [])
+      ≡ ten_groups a.clock a.samples a.channels fed ++ option_to_list out.ten
+  pub two : two_hour_groups a.clock a.samples a.channels
+      (ten_groups a.clock a.samples a.channels (fed ++ b ∷ []))
+      ≡ two_hour_groups a.clock a.samples a.channels (ten_groups a.clock a.samples a.channels fed)
+      ++ option_to_list out.two
+
+-- whatever list the aggregator has seen that the basic interval may follow, these are completed
+abbrev pub Completes : AggregatorView → Basic → Out → Type 0
+Completes a b out = (fed : List Basic) → HasSeen a fed → IsFed a (fed ++ b ∷ []) → AddsAtLast a fed b out
+
+-- whatever list the aggregator had seen that the basic interval may follow, it has now seen one more
+abbrev pub SeesMore : AggregatorView → AggregatorView → Basic → Type 0
+SeesMore old new b = (fed : List Basic) → HasSeen old fed → IsFed old (fed ++ b ∷ [])
+    → HasSeen new (fed ++ b ∷ [])
+
+-- the clock, the number of samples and that of channels stay
+pub record KeepsSetting (old new : AggregatorView) : Type 0 where
+  pub same_clock : new.clock ≡ old.clock
+  pub same_samples : new.samples ≡ old.samples
+  pub same_channels : new.channels ≡ old.channels
