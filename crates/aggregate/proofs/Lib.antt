@@ -1,0 +1,5 @@
+pub mod PairLaws
+pub mod FollowLaws
+pub mod SegmentLaws
+pub mod TenStepLaws
+pub mod TenSumLaws
