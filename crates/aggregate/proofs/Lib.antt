@@ -3,3 +3,4 @@ pub mod FollowLaws
 pub mod SegmentLaws
 pub mod TenStepLaws
 pub mod TenSumLaws
+pub mod MinuteLaws
