@@ -1,3 +1,4 @@
+pub mod SumLaws
 pub mod PairLaws
 pub mod FollowLaws
 pub mod SegmentLaws

@@ -31,11 +31,11 @@ impl Model for Sum {
     ghost Value = { SumView };
 
     ghost view = { λ s. record {
-        start = s.start;
-        end = s.end;
-        count = s.count;
-        flagged = s.flagged;
-        squares = s.squares;
+      start = s.start;
+      end = s.end;
+      count = s.count;
+      flagged = s.flagged;
+      squares = s.squares;
     } };
 
     ghost invariant = { λ s. IsSum s.count s.squares };
@@ -68,7 +68,7 @@ impl Sum {
         }
         self.end = span.end;
         self.count += 1;
-        self.flagged = self.flagged || flagged;
+        self.flagged |= flagged;
         add_squares(&mut self.squares, values);
     }
 
