@@ -1,20 +1,23 @@
 -- The ten minutes in which a place lies, told by the moment of its sample.
-use Rattle.std.proofs.Common.{◌≡◌, ◌⊎◌, ◌↔◌, ℕ, zero, suc, ◌+◌, ◌-◌, ◌*◌, ◌/◌, ◌%◌, ◌^◌, ◌<◌, ◌≤◌, Bool, true, false, cond, ◌&&◌, nat_lt, nat_le, List, [], ◌∷◌, find, ℤ, pos, negsuc, ◌+ℤ◌, ◌*ℤ◌, ◌≤ℤ◌, ◌<ℤ◌, IsTrue, Option, Some, None, option_map, unwrap_or, Contains, refl, sym, ◌∙◌, ap, subst, inl, inr, arith, lit<}
+use Rattle.std.proofs.Common.{◌≡◌, ◌⊎◌, ◌↔◌, ℕ, zero, suc, ◌+◌, ◌-◌, ◌*◌, ◌/◌, ◌%◌, ◌^◌, ◌<◌, ◌≤◌, Bool, true, false, cond, ◌&&◌, nat_lt, nat_le, List, [], ◌∷◌, find, ℤ, pos, negsuc, ◌+ℤ◌, ◌*ℤ◌, ◌≤ℤ◌, ◌<ℤ◌, IsTrue, Option, Some, None, option_map, unwrap_or, Contains, FitsSigned, to_z, of_z, w64, refl, sym, ◌∙◌, ap, subst, inl, inr, arith, lit<}
 use Rattle.std.specs.Int.{int_div_euclid, int_rem_euclid}
 use Rattle.std.specs.Prelude.{int_le}
 use Rattle.std.proofs.lemmas.Bool.{cases_lt, cases_Bool}
 use Rattle.std.proofs.lemmas.Bool.Decides.{nat_tests}
-use Rattle.std.proofs.lemmas.Int.{by_lt_z, ints}
+use Rattle.std.proofs.lemmas.Int.{by_lt_z, ints, to_z-of_z}
 use Rattle.std.proofs.lemmas.Option.{same_Some}
 use Rattle.pq_time.specs.declared.clock.Clock.{Clock}
 use Rattle.pq_time.specs.Tick.{IsTick, HasTicks, last_period, moment_of, tick_place, ticks}
-use Rattle.pq_time.specs.Time.{is_taken_by, place_of, time_of}
-use Rattle.pq_time.proofs.PlaceLaws.{taken_stays}
+use Rattle.pq_time.specs.Time.{IsClock, is_taken_by, place_of, time_of}
+use Rattle.pq_time.proofs.PlaceLaws.{passed_small, taken_stays}
 use Rattle.pq_time.proofs.TickLaws.{ticks_exact}
+use Rattle.aggregate.specs.declared.ten.TenMinutes.{TenMinutes}
 use Rattle.aggregate.specs.Aggregation.{tick_pairs}
-use Rattle.aggregate.specs.TenSum.{TenMinutes, lies_between, minutes_at}
+use Rattle.aggregate.specs.TenSum.{lies_between, minutes_at}
 use Rattle.aggregate.proofs.FollowLaws.{contains_among, among_contains}
 use Rattle.aggregate.proofs.PairLaws.{pairs, IsAmong, between}
+use Rattle.pq_words.specs.declared.limits.TheConstants.{MOST_SAMPLES}
+use Rattle.pq_words.specs.Magnitude.{IsWithin}
 use Rattle.pq_words.specs.First.{IsFirst, first_between}
 use Rattle.pq_words.proofs.FirstLaws.{first_between_is}
 use Rattle.pq_words.specs.Steps.{steps_from}
@@ -272,3 +275,27 @@ minutes_none_by clock n s t inside is missing =
     minutes_none clock n s inside t low high
     (ap (λ a. int_rem_euclid a (pos 600)) is ∙ whole_periods (last_period (time_of clock s) 600))
     (λ first next. missing first.not_before next.not_after)
+
+-- ---- bounds
+
+-- the moments of a recording are far within those of an i64
+pub time_small : (clock : Clock) (i : ℕ) → IsClock clock → i ≤ MOST_SAMPLES
+    → IsWithin (81 * 10 ^ 17) (time_of clock i)
+unfolding time_of
+time_small clock i sound few =
+    let passed = passed_small i clock.rate few sound.slowest in
+    (omega (arith, ints, sound.t0, passed), omega (arith, ints, sound.t0, passed))
+
+-- the last tick, by the moment as it is computed
+pub near_tick : (moment tick : ℤ) → FitsSigned w64 moment
+    → tick ≡ (last_period (to_z w64 (of_z w64 moment)) 600 *ℤ pos 600)
+    → (tick ≡ (last_period moment 600 *ℤ pos 600)) × (moment_of tick ≤ℤ moment)
+    × (moment <ℤ moment_of (tick +ℤ pos 600))
+near_tick moment tick fits is =
+    let same : tick ≡ (last_period moment 600 *ℤ pos 600) = is
+    ∙ ap (λ m. last_period m 600 *ℤ pos 600) (to_z-of_z w64 moment fits) in
+    let down = tick_down moment in (
+      same,
+      subst (λ a. moment_of a ≤ℤ moment) (sym same) down.0,
+      subst (λ a. moment <ℤ moment_of (a +ℤ pos 600)) (sym same) down.1,
+    )

@@ -9,9 +9,10 @@ use Rattle.std.proofs.lemmas.List.{map-append}
 use Rattle.pq_time.specs.declared.clock.Clock.{Clock}
 use Rattle.pq_time.specs.Tick.{tick_place, ticks}
 use Rattle.aggregate.specs.declared.group.Group.{Group}
+use Rattle.aggregate.specs.declared.ten.TenMinutes.{TenMinutes}
 use Rattle.aggregate.specs.Aggregation.{Part, Basic, group_of, parts_of, reaches, ten_group, ten_groups, tick_pairs}
 use Rattle.aggregate.specs.BasicOrder.{Follows, HasTickBetween}
-use Rattle.aggregate.specs.TenSum.{TenMinutes, completed, lies_between, minutes_at}
+use Rattle.aggregate.specs.TenSum.{completed, lies_between, minutes_at}
 use Rattle.aggregate.proofs.FollowLaws.{AreLinked, FollowFrom, follow_after, one_before, contains_among, among_contains, ticks_rise}
 use Rattle.aggregate.proofs.PairLaws.{pairs, IsAmong, seconds_among, between, last_after, one_changes}
 use Rattle.aggregate.proofs.SegmentLaws.{AreWithin, segment_from, segment_is, segment_split, none_from, reaches_it, reached_last, not_reached}

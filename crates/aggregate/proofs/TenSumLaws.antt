@@ -2,15 +2,17 @@
 use Rattle.std.proofs.Common.{◌≡◌, ◌⊎◌, ℕ, zero, suc, ◌+◌, ◌<◌, ◌≤◌, true, false, List, [], ◌∷◌, ◌++◌, length, map, Option, Some, None, option_and_then, option_to_list, slice_get, All, append_assoc, refl, sym, ◌∙◌, ap, subst, inl, inr, arith}
 use Rattle.std.specs.Bool.{⊤}
 use Rattle.std.specs.List.{AllByRecursion}
+use Rattle.std.proofs.lemmas.Bool.{cases_Bool}
 use Rattle.std.proofs.lemmas.List.{length-append, length-map, map-append}
 use Rattle.std.proofs.lemmas.List.Elements.{All-from_recursion, recursion_from_All, All-push}
 use Rattle.pq_time.specs.declared.clock.Clock.{Clock}
 use Rattle.aggregate.specs.declared.group.Group.{Group}
+use Rattle.aggregate.specs.declared.ten.TenMinutes.{TenMinutes}
 use Rattle.aggregate.specs.Aggregation.{Basic, group_of, parts_of, ten_groups}
 use Rattle.aggregate.specs.BasicOrder.{AreBasics, IsBasic, BeginsAtFront}
-use Rattle.aggregate.specs.Sum.{SumView, HasSummed}
-use Rattle.aggregate.specs.TenSum.{TenMinutes, TenView, HasSeen, IsFed, IsInSegment, Completes, SeesMore, completed, minutes_at}
-use Rattle.aggregate.proofs.FollowLaws.{AreLinked, FollowFrom, linked}
+use Rattle.aggregate.specs.Sum.{Adds, SumView, HasSummed}
+use Rattle.aggregate.specs.TenSum.{TenView, HasBegun, HasSeen, KeepsSetting, MayFollow, IsFed, IsInSegment, Completes, SeesMore, completed, minutes_at}
+use Rattle.aggregate.proofs.FollowLaws.{AreLinked, FollowFrom, follow_after, linked}
 use Rattle.aggregate.proofs.SegmentLaws.{AreWithin}
 use Rattle.aggregate.proofs.TenStepLaws.{first_completes, next_completes}
 
@@ -94,3 +96,99 @@ next_sees old new b goes_on clock samples minutes summed fed (inr seen) basics =
           minutes ∙ s.minutes ∙ ap (λ c. minutes_at c old.samples f.part.start) (sym clock)
               ∙ ap (λ n. minutes_at new.clock n f.part.start) (sym samples);
     })
+
+-- ---- a step: the machine begins a segment or goes on with one, and adds the basic interval to its sum
+
+-- the sum with the last one of its segment
+summed_push : (old new : SumView) (f : Basic) (rest : List Basic) (b : Basic) → Adds old new b.part
+    → HasSummed old (parts_of (f ∷ rest)) → HasSummed new (parts_of (f ∷ (rest ++ b ∷ [])))
+summed_push old new f rest b adds summed =
+    subst (HasSummed new) (sym (map-append (λ b. b.part) (f ∷ rest) (b ∷ []))) (adds (parts_of (f ∷ rest)) summed)
+
+module _ (old mid : TenView) (sum : SumView) (b : Basic) (setting : KeepsSetting old mid)
+    (begun : b.front ≡ true → HasBegun mid b.part.start) (stays : b.front ≡ false → mid ≡ old)
+    (adds : Adds mid.sum sum b.part) where
+  -- the ten minutes are those of the place where the segment begins
+  begun_minutes : b.front ≡ true → mid.minutes ≡ minutes_at old.clock old.samples b.part.start
+  begun_minutes is =
+      (begun is).minutes ∙ ap (λ c. minutes_at c mid.samples b.part.start) setting.same_clock
+      ∙ ap (λ n. minutes_at old.clock n b.part.start) setting.same_samples
+
+  pub step_completes : (answer : Option Group) → ((segment : List Basic) → HasSummed sum (parts_of segment)
+      → answer ≡ option_and_then (completed old.channels b segment) mid.minutes) → Completes old b answer
+  step_completes answer told = at (cases_Bool b.front)
+    where
+      at : (b.front ≡ true) ⊎ (b.front ≡ false) → Completes old b answer
+      at (inl is) = front_completes old b answer is
+          (told (b ∷ []) (adds [] (begun is).summed) ∙ ap (option_and_then (completed old.channels b (b ∷ []))) (begun_minutes is))
+      at (inr is) = next_completes_one old b answer is (λ before f rest fed s.
+          told (f ∷ (rest ++ b ∷ []))
+          (summed_push mid.sum sum f rest b adds
+          (subst (λ (v : TenView). HasSummed v.sum (parts_of (f ∷ rest))) (sym (stays is)) s.summed))
+          ∙ ap (λ (v : TenView). option_and_then (completed old.channels b (f ∷ (rest ++ b ∷ []))) v.minutes) (stays is))
+
+  pub step_sees : (new : TenView) → KeepsSetting old new → new.sum ≡ sum → new.minutes ≡ mid.minutes
+      → SeesMore old new b
+  step_sees new keeps sum_is minutes_is = at (cases_Bool b.front)
+    where
+      at : (b.front ≡ true) ⊎ (b.front ≡ false) → SeesMore old new b
+      at (inl is) = front_sees old new b is keeps.same_clock keeps.same_samples
+          (subst (λ s. HasSummed s (b.part ∷ [])) (sym sum_is) (adds [] (begun is).summed))
+          (minutes_is ∙ begun_minutes is)
+      at (inr is) = next_sees old new b is keeps.same_clock keeps.same_samples
+          (minutes_is ∙ ap (λ (v : TenView). v.minutes) (stays is))
+          (λ before f rest fed s. subst (λ s. HasSummed s (parts_of (f ∷ (rest ++ b ∷ [])))) (sym sum_is)
+          (summed_push mid.sum sum f rest b adds
+          (subst (λ (v : TenView). HasSummed v.sum (parts_of (f ∷ rest))) (sym (stays is)) s.summed)))
+
+-- ---- room for one more
+
+begun_in : (clock : Clock) (n : ℕ) (a : Basic) (bs : List Basic) → FollowFrom clock n a bs
+    → AllByRecursion (λ b. b.part.start < n) (a ∷ bs) → a.part.start + length bs < n
+begun_in clock n a [] h each = let less = each.0 in omega (arith, less)
+begun_in clock n a (b ∷ bs) h each =
+    let rest = begun_in clock n b bs h.1 each.1 in
+    let step = h.0.starts in
+    omega (arith, rest, step)
+
+starts_in : (n channels : ℕ) (bs : List Basic) → AllByRecursion (IsBasic n channels) bs
+    → AllByRecursion (λ b. b.part.start < n) bs
+starts_in n channels [] h = tt
+starts_in n channels (b ∷ bs) h =
+    let some = h.0.some in
+    let within = h.0.within in
+    (omega (arith, some, within), starts_in n channels bs h.1)
+
+all_after : {X : Type 0} (P : X → Type 0) (xs ys : List X) → AllByRecursion P (xs ++ ys) → AllByRecursion P ys
+all_after P [] ys h = h
+all_after P (x ∷ xs) ys h = all_after P xs ys h.1
+
+-- the last of some is one
+pub last_basic : (clock : Clock) (n channels : ℕ) (fed : List Basic) (b : Basic)
+    → AreBasics clock n channels (fed ++ b ∷ []) → IsBasic n channels b
+last_basic clock n channels fed b basics =
+    (all_after (IsBasic n channels) fed (b ∷ []) (recursion_from_All (IsBasic n channels) (fed ++ b ∷ []) basics.each)).0
+
+-- a segment that one more may follow has fewer basic intervals than there are samples
+pub room_in : (t : TenView) (b : Basic) → b.front ≡ false → MayFollow t b → t.sum.count < t.samples
+room_in t b goes_on may = at may.0 may.1 may.2
+  where
+    at : (fed : List Basic) → HasSeen t fed → IsFed t (fed ++ b ∷ []) → t.sum.count < t.samples
+    at fed (inl none) basics = absurd (not_first b fed goes_on none basics.first)
+    at fed (inr seen) basics =
+        let before = seen.0 in
+        let f = seen.1 in
+        let rest = seen.2 in
+        let s = seen.3 in
+        let whole = pushed fed before f rest b s.parts in
+        let follow = follow_after t.clock t.samples before f (rest ++ b ∷ [])
+        (subst (λ bs. AreLinked t.clock t.samples bs) whole
+        (linked t.clock t.samples (fed ++ b ∷ []) basics.follow)) in
+        let each = starts_in t.samples t.channels (f ∷ (rest ++ b ∷ [])) (all_after (IsBasic t.samples t.channels)
+        before (f ∷ (rest ++ b ∷ [])) (subst (λ bs. AllByRecursion (IsBasic t.samples t.channels) bs) whole
+        (recursion_from_All (IsBasic t.samples t.channels) (fed ++ b ∷ []) basics.each))) in
+        let less = begun_in t.clock t.samples f (rest ++ b ∷ []) follow each in
+        let number = s.summed.number in
+        let many : length (parts_of (f ∷ rest)) ≡ suc (length rest) = length-map (f ∷ rest) (λ b. b.part) in
+        let more : length (rest ++ b ∷ []) ≡ length rest + 1 = length-append rest (b ∷ []) in
+        omega (arith, less, number, many, more)

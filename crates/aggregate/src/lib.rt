@@ -5,3 +5,4 @@ pub use group::{Group, Out};
 
 mod group;
 mod sum;
+mod ten;
