@@ -1,5 +1,5 @@
 -- What the machine for 10-minute intervals keeps agrees with what it was fed, and goes on to.
-use Rattle.std.proofs.Common.{◌≡◌, ◌⊎◌, ℕ, zero, suc, ◌+◌, ◌<◌, ◌≤◌, true, false, List, [], ◌∷◌, ◌++◌, length, map, Option, Some, None, option_and_then, option_to_list, slice_get, All, append_assoc, refl, sym, ◌∙◌, ap, subst, inl, inr, arith}
+use Rattle.std.proofs.Common.{◌≡◌, ◌⊎◌, ℕ, zero, suc, ◌+◌, ◌<◌, ◌≤◌, true, false, cond, ◌&&◌, nat_lt, nat_le, List, [], ◌∷◌, ◌++◌, length, map, Option, Some, None, option_and_then, option_to_list, slice_get, All, append_assoc, refl, sym, ◌∙◌, ap, subst, inl, inr, arith}
 use Rattle.std.specs.Bool.{⊤}
 use Rattle.std.specs.List.{AllByRecursion}
 use Rattle.std.proofs.lemmas.Bool.{cases_Bool}
@@ -192,3 +192,26 @@ room_in t b goes_on may = at may.0 may.1 may.2
         let many : length (parts_of (f ∷ rest)) ≡ suc (length rest) = length-map (f ∷ rest) (λ b. b.part) in
         let more : length (rest ++ b ∷ []) ≡ length rest + 1 = length-append rest (b ∷ []) in
         omega (arith, less, number, many, more)
+
+-- ---- what it answers
+
+pub told_none : (channels : ℕ) (b : Basic) (segment : List Basic) (o : Option TenMinutes) (answer : Option Group)
+    → o ≡ None → answer ≡ None → answer ≡ option_and_then (completed channels b segment) o
+told_none channels b segment o answer none is = is
+    ∙ sym (ap (option_and_then (completed channels b segment)) none)
+
+pub told_missed : (channels : ℕ) (b : Basic) (segment : List Basic) (m : TenMinutes) (o : Option TenMinutes)
+    → o ≡ Some m → (nat_lt b.part.start m.next && nat_le m.next b.part.end) ≡ false
+    → None ≡ option_and_then (completed channels b segment) o
+told_missed channels b segment m o some missed =
+    sym (ap (option_and_then (completed channels b segment)) some
+    ∙ ap (λ c. cond c (Some (group_of (Some m.tick) channels (parts_of segment))) None) missed)
+
+pub told_reached : (channels : ℕ) (b : Basic) (segment : List Basic) (m : TenMinutes) (o : Option TenMinutes)
+    (g : Group) → o ≡ Some m → (nat_lt b.part.start m.next && nat_le m.next b.part.end) ≡ true
+    → g ≡ group_of (Some m.tick) channels (parts_of segment)
+    → Some g ≡ option_and_then (completed channels b segment) o
+told_reached channels b segment m o g some reached is =
+    ap Some is
+    ∙ sym (ap (option_and_then (completed channels b segment)) some
+    ∙ ap (λ c. cond c (Some (group_of (Some m.tick) channels (parts_of segment))) None) reached)
