@@ -1,12 +1,18 @@
 -- What contracts see of an aggregator, over the basic intervals that it was fed.
-use Rattle.std.specs.Prelude.{◌≡◌, ℕ, List, [], ◌∷◌, ◌++◌, option_to_list}
+use Rattle.std.specs.Prelude.{◌≡◌, ℕ, Bool, List, [], ◌∷◌, ◌++◌, option_to_list}
 use Rattle.aggregate.specs.declared.group.Out.{Out}
 use Rattle.aggregate.specs.Aggregation.{Basic, short_groups, ten_groups, two_hour_groups}
 use Rattle.aggregate.specs.BasicOrder.{AreBasics}
 use Rattle.aggregate.specs.ShortSums.{ShortView}
+use Rattle.aggregate.specs.Sum.{part_of}
 use Rattle.aggregate.specs.TenSum.{TenView, HasSeen as HasSeenBasics}
 use Rattle.aggregate.specs.TwoHourSum.{TwoHourView, HasSeen as HasSeenTens}
 use Rattle.pq_time.specs.declared.clock.Clock.{Clock}
+use Rattle.ten_twelve.specs.declared.span.Span.{Span}
+
+-- a basic interval, as it is handed in
+abbrev pub basic_of : Span → Bool → List ℕ → Bool → Basic
+basic_of span front values flagged = record { front = front; part = part_of span values flagged }
 
 -- an aggregator: when the samples are taken, how many there are and of how many channels, and its machines
 pub record AggregatorView : Type 0 where

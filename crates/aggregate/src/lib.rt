@@ -4,4 +4,5 @@
 pub use group::{Group, Out};
 
 mod group;
+mod short;
 mod sum;
