@@ -1,10 +1,9 @@
 // 150/180-cycle intervals, basic interval by basic interval.
 ghost use Rattle.std.specs.Prelude.{◌≡◌, ◌∷◌, ◌++◌, ◌≤◌, ◌||◌, [], drop, length, map, not, take};
 ghost use Rattle.std.specs.List.{list_any};
-ghost use Rattle.aggregate.specs.BasicOrder.{AreQuiet, IsChannelCount};
+ghost use Rattle.aggregate.specs.BasicOrder.{AreQuiet, IsChannelCount, basic_of};
 ghost use Rattle.aggregate.specs.ShortSums.{AreRecent, Completes, HasSeen, SeesMore, completed_by, recent_view};
 ghost use Rattle.aggregate.specs.Sum.{HasSummed, part_of};
-ghost use Rattle.aggregate.specs.Aggregator.{basic_of};
 
 use crate::Group;
 use crate::sum::Sum;
@@ -77,8 +76,8 @@ impl ShortSums {
     ) -> Option<Group>
         requires long { length values.now ≡ self.old.channels }
         requires quiet { AreQuiet values.now }
-        ensures value { Completes self.old (basic_of span front values.now flagged) result }
-        ensures seen { SeesMore self.old self.new (basic_of span front values.now flagged) }
+        ensures value { Completes self.old (basic_of front span values.now flagged) result }
+        ensures seen { SeesMore self.old self.new (basic_of front span values.now flagged) }
         ensures same { self.new.channels ≡ self.old.channels }
     {
         let completed = completed(&self.recent, self.channels, span, values, flagged);

@@ -1,5 +1,5 @@
 use Rattle.std.proofs.Common.{◌≡◌, ◌∙◌, map, take, ap, sym, subst, refl}
-use Rattle.aggregate.specs.Aggregator.{basic_of}
+use Rattle.aggregate.specs.BasicOrder.{basic_of}
 use Rattle.aggregate.specs.ShortSums.{Completes, SeesMore, ShortView, recent_view}
 use Rattle.aggregate.specs.Sum.{part_of}
 use Rattle.aggregate.specs.declared.short.Recent.{Recent}
@@ -10,7 +10,7 @@ use Rattle.aggregate.proofs.short.ShortSums.step.Goals as goal
 pub returns-clause-value : goal.returns-clause-value
 returns-clause-value c =
     let i = c.self.inside in
-    let b = basic_of c.args.span c.args.front c.args.values.now c.args.flagged in
+    let b = basic_of c.args.front c.args.span c.args.values.now c.args.flagged in
     let was : ShortView = record { channels = i.channels; recent = map (recent_view i.channels) i.recent } in
     subst (λ (s : ShortView). Completes s b c.completed-completed.result) c.self.view_is
     (completes_of was b c.completed-completed.result c.completed-completed.ensures)
@@ -19,7 +19,7 @@ returns-clause-value c =
 pub returns-clause-seen : goal.returns-clause-seen
 returns-clause-seen c =
     let i = c.self.inside in
-    let b = basic_of c.args.span c.args.front c.args.values.now c.args.flagged in
+    let b = basic_of c.args.front c.args.span c.args.values.now c.args.flagged in
     let was : ShortView = record { channels = i.channels; recent = map (recent_view i.channels) i.recent } in
     let now : ShortView =
     record { channels = i.channels; recent = map (recent_view i.channels) c.push.new.recent } in
