@@ -1,4 +1,5 @@
 pub mod SumLaws
+pub mod ShortLaws
 pub mod PairLaws
 pub mod FollowLaws
 pub mod SegmentLaws

@@ -2,8 +2,8 @@
 use Rattle.std.specs.Prelude.{◌≡◌, ℕ, List, [], ◌∷◌, ◌++◌, option_to_list}
 use Rattle.aggregate.specs.declared.group.Out.{Out}
 use Rattle.aggregate.specs.Aggregation.{Basic, short_groups, ten_groups, two_hour_groups}
-use Rattle.aggregate.specs.BasicOrder.{AreBasics}
-use Rattle.aggregate.specs.ShortSums.{ShortView}
+use Rattle.aggregate.specs.BasicOrder.{AreBasics, IsSetting}
+use Rattle.aggregate.specs.ShortSums.{ShortView, HasSeen as HasSeenShort}
 use Rattle.aggregate.specs.TenSum.{TenView, HasSeen as HasSeenBasics}
 use Rattle.aggregate.specs.TwoHourSum.{TwoHourView, HasSeen as HasSeenTens}
 use Rattle.pq_time.specs.declared.clock.Clock.{Clock}
@@ -17,10 +17,30 @@ pub record AggregatorView : Type 0 where
   pub ten : TenView
   pub two : TwoHourView
 
+-- the same of its machines
+abbrev pub aggregator_view : ShortView → TenView → TwoHourView → AggregatorView
+aggregator_view short ten two = record {
+  clock = ten.clock;
+  samples = ten.samples;
+  channels = ten.channels;
+  short = short;
+  ten = ten;
+  two = two;
+}
+
+-- the machines are those of an aggregator: of one setting
+pub record IsAggregator (short : ShortView) (ten : TenView) (two : TwoHourView) : Type 0 where
+  pub setting : IsSetting ten.clock ten.samples ten.channels
+  pub short_channels : short.channels ≡ ten.channels
+  pub two_clock : two.clock ≡ ten.clock
+  pub two_samples : two.samples ≡ ten.samples
+  pub two_channels : two.channels ≡ ten.channels
+
 -- an aggregator has seen these basic intervals
 pub record HasSeen (a : AggregatorView) (fed : List Basic) : Type 0 where
-  pub ten : HasSeenBasics a.ten fed
-  pub two : HasSeenTens a.two (ten_groups a.clock a.samples a.channels fed)
+  pub of_short : HasSeenShort a.short fed
+  pub of_ten : HasSeenBasics a.ten fed
+  pub of_two : HasSeenTens a.two (ten_groups a.clock a.samples a.channels fed)
 
 -- a list that an aggregator may be fed
 abbrev pub IsFed : AggregatorView → List Basic → Type 0
@@ -49,6 +69,12 @@ Completes a b out = (fed : List Basic) → HasSeen a fed → IsFed a (fed ++ b �
 abbrev pub SeesMore : AggregatorView → AggregatorView → Basic → Type 0
 SeesMore old new b = (fed : List Basic) → HasSeen old fed → IsFed old (fed ++ b ∷ [])
     → HasSeen new (fed ++ b ∷ [])
+
+-- the aggregator's clock, number of samples and number of channels are these
+pub record HasSetting (a : AggregatorView) (clock : Clock) (n channels : ℕ) : Type 0 where
+  pub clock_is : a.clock ≡ clock
+  pub samples_are : a.samples ≡ n
+  pub channels_are : a.channels ≡ channels
 
 -- the clock, the number of samples and that of channels stay
 pub record KeepsSetting (old new : AggregatorView) : Type 0 where

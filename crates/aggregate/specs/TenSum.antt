@@ -1,15 +1,12 @@
 -- What contracts see of the machine for 10-minute intervals, over the basic intervals that it was fed.
-use Rattle.std.specs.Prelude.{◌≡◌, ◌⊎◌, ℕ, ◌≤◌, Bool, false, true, ◌&&◌, nat_le, nat_lt, if◌then◌else◌, List, [], ◌∷◌, ◌++◌, find, ℤ, Option, Some, None, option_map, option_to_list, All}
+use Rattle.std.specs.Prelude.{◌≡◌, ◌⊎◌, ℕ, Bool, false, true, ◌&&◌, nat_le, nat_lt, if◌then◌else◌, List, [], ◌∷◌, ◌++◌, find, ℤ, Option, Some, None, option_map, option_to_list, All}
 use Rattle.aggregate.specs.declared.group.Group.{Group}
 use Rattle.aggregate.specs.declared.ten.TenMinutes.{TenMinutes}
 use Rattle.aggregate.specs.Aggregation.{Basic, group_of, parts_of, ten_groups, tick_pairs}
-use Rattle.aggregate.specs.BasicOrder.{AreBasics, IsChannelCount}
-use Rattle.aggregate.specs.Sum.{SumView, HasSummed, part_of}
+use Rattle.aggregate.specs.BasicOrder.{AreBasics}
+use Rattle.aggregate.specs.Sum.{SumView, HasSummed}
 use Rattle.pq_time.specs.declared.clock.Clock.{Clock}
 use Rattle.pq_time.specs.Tick.{tick_place}
-use Rattle.pq_time.specs.Time.{IsClock}
-use Rattle.pq_words.specs.declared.limits.TheConstants.{MOST_SAMPLES}
-use Rattle.ten_twelve.specs.declared.span.Span.{Span}
 
 -- the place lies from that of the first tick on, and before that of the second
 abbrev pub lies_between : (ℤ → ℕ) → ℕ → ℤ × ℤ → Bool
@@ -35,16 +32,6 @@ pub record TenView : Type 0 where
   pub channels : ℕ
   pub sum : SumView
   pub minutes : Option TenMinutes
-
--- what a machine takes: a clock, some samples and some channels (profile)
-pub record IsSetting (clock : Clock) (n channels : ℕ) : Type 0 where
-  pub timed : IsClock clock
-  pub short : n ≤ MOST_SAMPLES
-  pub few : IsChannelCount channels
-
--- a basic interval, as it is handed in
-abbrev pub basic_of : Bool → Span → List ℕ → Bool → Basic
-basic_of front span values flagged = record { front = front; part = part_of span values flagged }
 
 -- the machine has just begun a segment at a place: it has no sum yet, and the ten minutes of that place
 pub record HasBegun (t : TenView) (place : ℕ) : Type 0 where

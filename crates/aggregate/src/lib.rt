@@ -4,5 +4,6 @@
 pub use group::{Group, Out};
 
 mod group;
+mod short;
 mod sum;
 mod ten;

@@ -1,6 +1,7 @@
 // 10-minute intervals, basic interval by basic interval.
 ghost use Rattle.std.specs.Prelude.{◌≡◌, ◌<◌, ◌≤◌, ◌+ℤ◌, ◌*ℤ◌, ◌^◌, ◌*◌, [], pos, true, false, ◌&&◌, nat_lt, nat_le};
-ghost use Rattle.aggregate.specs.TenSum.{Completes, HasBegun, HasSeen, IsSetting, KeepsSetting, MayFollow, SeesMore, basic_of, minutes_at};
+ghost use Rattle.aggregate.specs.BasicOrder.{IsSetting, basic_of};
+ghost use Rattle.aggregate.specs.TenSum.{Completes, HasBegun, HasSeen, KeepsSetting, MayFollow, SeesMore, minutes_at};
 ghost use Rattle.pq_time.specs.Tick.{last_period};
 ghost use Rattle.pq_time.specs.Time.{IsClock};
 ghost use Rattle.pq_words.specs.Magnitude.{IsWithin};
@@ -32,7 +33,8 @@ pub(crate) struct TenMinutes {
 }
 
 impl Model for TenSum {
-    ghost use Rattle.aggregate.specs.TenSum.{IsSetting, TenView};
+    ghost use Rattle.aggregate.specs.BasicOrder.{IsSetting};
+    ghost use Rattle.aggregate.specs.TenSum.{TenView};
 
     ghost Value = { TenView };
 

@@ -4,7 +4,8 @@ use Rattle.std.proofs.lemmas.Bool.{cases_Bool}
 use Rattle.std.proofs.lemmas.Int.{to_z-of_z}
 use Rattle.aggregate.specs.Aggregation.{Basic, group_of, parts_of}
 use Rattle.aggregate.specs.Sum.{Adds, SumView}
-use Rattle.aggregate.specs.TenSum.{TenView, basic_of}
+use Rattle.aggregate.specs.BasicOrder.{basic_of}
+use Rattle.aggregate.specs.TenSum.{TenView}
 use Rattle.aggregate.proofs.TenSumLaws.{last_basic, room_in, step_completes, step_sees, told_none, told_missed, told_reached}
 use Rattle.aggregate.proofs.ten.TenSum.step.Goals as goal
 
