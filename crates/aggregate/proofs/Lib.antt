@@ -6,3 +6,4 @@ pub mod SegmentLaws
 pub mod TenStepLaws
 pub mod TenSumLaws
 pub mod MinuteLaws
+pub mod TensLaws
