@@ -7,3 +7,5 @@ pub mod TenStepLaws
 pub mod TenSumLaws
 pub mod MinuteLaws
 pub mod TensLaws
+pub mod AggregatorLaws
+pub mod WholeListLaws

@@ -1,11 +1,12 @@
 -- What contracts see of an aggregator, over the basic intervals that it was fed.
-use Rattle.std.specs.Prelude.{◌≡◌, ℕ, List, [], ◌∷◌, ◌++◌, option_to_list}
+use Rattle.std.specs.Prelude.{◌≡◌, ℕ, List, [], ◌∷◌, ◌++◌, Option, option_to_list}
+use Rattle.aggregate.specs.declared.group.Group.{Group}
 use Rattle.aggregate.specs.declared.group.Out.{Out}
 use Rattle.aggregate.specs.Aggregation.{Basic, short_groups, ten_groups, two_hour_groups}
 use Rattle.aggregate.specs.BasicOrder.{AreBasics, IsSetting}
 use Rattle.aggregate.specs.ShortSums.{ShortView, HasSeen as HasSeenShort}
 use Rattle.aggregate.specs.TenSum.{TenView, HasSeen as HasSeenBasics}
-use Rattle.aggregate.specs.TwoHourSum.{TwoHourView, HasSeen as HasSeenTens}
+use Rattle.aggregate.specs.TwoHourSum.{TwoHourView, HasSeen as HasSeenTens, IsFed as AreFedTens}
 use Rattle.pq_time.specs.declared.clock.Clock.{Clock}
 
 -- an aggregator: when the samples are taken, how many there are and of how many channels, and its machines
@@ -50,20 +51,19 @@ IsFed a fed = AreBasics a.clock a.samples a.channels fed
 abbrev pub MayFollow : AggregatorView → Basic → Type 0
 MayFollow a b = (fed : List Basic) × HasSeen a fed × IsFed a (fed ++ b ∷ [])
 
--- what one more basic interval completes, of each length, if anything
-pub record AddsAtLast (a : AggregatorView) (fed : List Basic) (b : Basic) (out : Out) : Type 0 where
-  pub short : short_groups a.channels (fed ++ b ∷ [])
-      ≡ short_groups a.channels fed ++ option_to_list out.short
-  pub ten : ten_groups a.clock a.samples a.channels (fed ++ b ∷ [])
-      ≡ ten_groups a.clock a.samples a.channels fed ++ option_to_list out.ten
-  pub two : two_hour_groups a.clock a.samples a.channels
-      (ten_groups a.clock a.samples a.channels (fed ++ b ∷ []))
-      ≡ two_hour_groups a.clock a.samples a.channels (ten_groups a.clock a.samples a.channels fed)
+-- what the intervals of one list have behind those of another: one of each length, or none
+pub record AddsGroups (a : AggregatorView) (before after : List Basic) (out : Out) : Type 0 where
+  pub short : short_groups a.channels after ≡ short_groups a.channels before ++ option_to_list out.short
+  pub ten : ten_groups a.clock a.samples a.channels after
+      ≡ ten_groups a.clock a.samples a.channels before ++ option_to_list out.ten
+  pub two : two_hour_groups a.clock a.samples a.channels (ten_groups a.clock a.samples a.channels after)
+      ≡ two_hour_groups a.clock a.samples a.channels (ten_groups a.clock a.samples a.channels before)
       ++ option_to_list out.two
 
 -- whatever list the aggregator has seen that the basic interval may follow, these are completed
 abbrev pub Completes : AggregatorView → Basic → Out → Type 0
-Completes a b out = (fed : List Basic) → HasSeen a fed → IsFed a (fed ++ b ∷ []) → AddsAtLast a fed b out
+Completes a b out = (fed : List Basic) → HasSeen a fed → IsFed a (fed ++ b ∷ [])
+    → AddsGroups a fed (fed ++ b ∷ []) out
 
 -- whatever list the aggregator had seen that the basic interval may follow, it has now seen one more
 abbrev pub SeesMore : AggregatorView → AggregatorView → Basic → Type 0
@@ -81,3 +81,17 @@ pub record KeepsSetting (old new : AggregatorView) : Type 0 where
   pub same_clock : new.clock ≡ old.clock
   pub same_samples : new.samples ≡ old.samples
   pub same_channels : new.channels ≡ old.channels
+
+-- the same of the 10-minute interval that a basic interval may complete, for the machine for 2-hour intervals
+abbrev pub MayFollowTens : TwoHourView → Option Group → Type 0
+MayFollowTens t ten = (fed : List Group) × HasSeenTens t fed × AreFedTens t (fed ++ option_to_list ten)
+
+abbrev pub CompletesTens : TwoHourView → Option Group → Option Group → Type 0
+CompletesTens t ten answer = (fed : List Group) → HasSeenTens t fed → AreFedTens t (fed ++ option_to_list ten)
+    → two_hour_groups t.clock t.samples t.channels (fed ++ option_to_list ten)
+    ≡ two_hour_groups t.clock t.samples t.channels fed ++ option_to_list answer
+
+abbrev pub SeesMoreTens : TwoHourView → TwoHourView → Option Group → Type 0
+SeesMoreTens old new ten =
+    (fed : List Group) → HasSeenTens old fed → AreFedTens old (fed ++ option_to_list ten)
+    → HasSeenTens new (fed ++ option_to_list ten)
