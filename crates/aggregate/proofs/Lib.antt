@@ -6,3 +6,5 @@ pub mod SegmentLaws
 pub mod TenStepLaws
 pub mod TenSumLaws
 pub mod MinuteLaws
+pub mod TwoHourStepLaws
+pub mod TwoHourSumLaws

@@ -7,3 +7,4 @@ mod group;
 mod short;
 mod sum;
 mod ten;
+mod two_hour;
