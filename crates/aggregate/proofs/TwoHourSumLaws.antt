@@ -1,5 +1,5 @@
 -- What the machine for 2-hour intervals keeps agrees with what it was fed, and goes on to.
-use Rattle.std.proofs.Common.{◌≡◌, ◌⊎◌, ℕ, zero, suc, ◌+◌, ◌*◌, ◌<◌, ◌≤◌, ◌==◌, Bool, true, false, cond, List, [], ◌∷◌, ◌++◌, length, map, find, ℤ, pos, ◌+ℤ◌, ◌*ℤ◌, ◌≤ℤ◌, ◌<ℤ◌, Option, Some, None, IfSome, option_and_then, option_to_list, slice_get, All, refl, sym, ◌∙◌, ap, subst, inl, inr, arith}
+use Rattle.std.proofs.Common.{◌≡◌, ◌⊎◌, ℕ, zero, suc, ◌+◌, ◌*◌, ◌^◌, ◌<◌, ◌≤◌, ◌==◌, Bool, true, false, cond, List, [], ◌∷◌, ◌++◌, length, map, find, ℤ, pos, ◌+ℤ◌, ◌*ℤ◌, ◌≤ℤ◌, ◌<ℤ◌, Option, Some, None, IfSome, option_and_then, option_to_list, slice_get, All, refl, sym, ◌∙◌, ap, subst, inl, inr, arith}
 use Rattle.std.specs.Bool.{⊤}
 use Rattle.std.specs.Int.{int_rem_euclid}
 use Rattle.std.specs.List.{AllByRecursion}
@@ -7,19 +7,23 @@ use Rattle.std.specs.Ordering.{int_eq}
 use Rattle.std.proofs.lemmas.Bool.{both_ways, cases_eq}
 use Rattle.std.proofs.lemmas.Bool.Decides.{nat_tests, Decides-int_eq}
 use Rattle.std.proofs.lemmas.Int.{ints}
-use Rattle.std.proofs.lemmas.List.{length-append, map-append}
+use Rattle.std.proofs.lemmas.List.{length-append, length-map, map-append}
 use Rattle.std.proofs.lemmas.List.Elements.{All-contains, Contains-push, recursion_from_All}
 use Rattle.std.proofs.lemmas.Option.{same_Some}
 use Rattle.pq_time.specs.declared.clock.Clock.{Clock}
 use Rattle.pq_time.specs.Tick.{IsTick, ticks}
+use Rattle.pq_time.specs.Time.{IsClock}
 use Rattle.pq_time.proofs.TickLaws.{ticks_exact}
 use Rattle.aggregate.specs.declared.group.Group.{Group}
 use Rattle.aggregate.specs.declared.two_hour.TwoHours.{TwoHours}
 use Rattle.aggregate.specs.Aggregation.{as_part, group_of, has_tick, two_hour_group, two_hour_groups}
+use Rattle.aggregate.specs.BasicOrder.{IsSetting}
 use Rattle.aggregate.specs.Sum.{Adds, HasSummed, IsGroupOf, SumView}
-use Rattle.aggregate.specs.TwoHourSum.{AreRunning, AreTens, Completes, HasSeen, IsTen, KeepsSetting, NoneRun, RunsAfter, SeesMore, TwoHourView, begins_two_hours, next_hours, next_ten, tens_from}
+use Rattle.aggregate.specs.TwoHourSum.{AreRunning, AreTens, Completes, HasSeen, IsTen, KeepsSetting, MayFollow, NoneRun, RunsAfter, SeesMore, TwoHourView, begins_two_hours, next_hours, next_ten, tens_from}
+use Rattle.pq_words.specs.declared.limits.TheConstants.{MOST_SAMPLES}
+use Rattle.pq_words.specs.Magnitude.{IsWithin}
 use Rattle.aggregate.proofs.FollowLaws.{among_contains, contains_among}
-use Rattle.aggregate.proofs.MinuteLaws.{multiple_of}
+use Rattle.aggregate.proofs.MinuteLaws.{multiple_of, time_small}
 use Rattle.aggregate.proofs.PairLaws.{IsAmong}
 use Rattle.aggregate.proofs.TwoHourStepLaws.{AreBelow, IsAnswer, first_found, found_is, from_most, from_upto, last_found, made, no_tens, running_after, running_on, running_to, same_two_hours, tens_between, tick_of_found, two_completes, two_here, two_hours_of}
 
@@ -327,3 +331,114 @@ module _ (clock : Clock) (n channels : ℕ) (fed : List Group) (g : Group) (v : 
       where
         ten_at_most : (c : ℕ) → c ≤ 11 → (c ≡ 11 → ⊥) → c ≤ 10
         ten_at_most c le other = elim (cases_eq c 11) [ inl is ↦ absurd (other is) | inr no_eleven ↦ grind (arith, le, no_eleven) ]
+
+-- ---- the ways of a step
+
+pub none_done : (old : TwoHourView) (g : Group) (v : ℤ) (answer : Option Group) → g.tick ≡ Some v
+    → next_hours old.hours v ≡ None → answer ≡ None → Completes old g answer
+none_done old g v answer ticked none is fed seen tens =
+    none_completes old.clock old.samples old.channels fed g v ticked tens old.hours old.sum seen none
+    ∙ ap (λ o. two_hour_groups old.clock old.samples old.channels fed ++ option_to_list o) (sym is)
+
+pub none_seen : (old new : TwoHourView) (g : Group) (v : ℤ) → g.tick ≡ Some v → next_hours old.hours v ≡ None
+    → new.hours ≡ None → SeesMore old new g
+none_seen old new g v ticked none is fed seen tens =
+    subst (λ o. RunsAfter (fed ++ g ∷ []) new.sum o) (sym is)
+    (none_runs old.clock old.samples old.channels fed g v ticked tens old.hours old.sum seen none)
+
+module _ (old mid : TwoHourView) (sum : SumView) (g : Group) (v : ℤ) (h : TwoHours) (ticked : g.tick ≡ Some v)
+    (next : next_hours old.hours v ≡ Some h) (anew : begins_two_hours v ≡ true → HasSummed mid.sum [])
+    (stays : begins_two_hours v ≡ false → mid.sum ≡ old.sum) where
+  -- the sum is that of those so far
+  summed_before : (fed : List Group) → HasSeen old fed
+      → HasSummed mid.sum (map as_part (tens_from fed h.tick h.count))
+  summed_before fed seen = at (next_some old.hours v h next)
+    where
+      at : IsNext old.hours v h → HasSummed mid.sum (map as_part (tens_from fed h.tick h.count))
+      at (inl begins) =
+          subst (λ (h : TwoHours). HasSummed mid.sum (map as_part (tens_from fed h.tick h.count))) begins.1
+          (subst (λ gs. HasSummed mid.sum (map as_part gs)) (sym (no_tens fed v)) (anew begins.0))
+      at (inr on) =
+          let r : RunsAfter fed old.sum (Some h) = subst (λ o. RunsAfter fed old.sum o) on.1 seen in
+          subst (λ s. HasSummed s (map as_part (tens_from fed h.tick h.count))) (sym (stays on.0)) r.1
+
+  -- and there is room for one more
+  pub room_for : (fed : List Group) → HasSeen old fed → AreTens old.clock old.samples (fed ++ g ∷ [])
+      → mid.sum.count ≤ 11
+  room_for fed seen tens =
+      let on = goes_on old.clock old.samples old.channels fed g v ticked tens old.hours old.sum seen h
+      (next_some old.hours v h next) in
+      let number = (summed_before fed seen).number in
+      let many = length-map (tens_from fed h.tick h.count) as_part in
+      let all = on.3 in
+      let few = on.1 in
+      omega (arith, number, many, all, few)
+
+  module _ (adds : Adds mid.sum sum (as_part g)) where
+    summed : (fed : List Group) → HasSeen old fed
+        → HasSummed sum (map as_part (tens_from fed h.tick h.count ++ g ∷ []))
+    summed fed seen =
+        subst (HasSummed sum) (sym (map-append as_part (tens_from fed h.tick h.count) (g ∷ [])))
+        (adds (map as_part (tens_from fed h.tick h.count)) (summed_before fed seen))
+
+    pub whole_done : (answer : Group) → h.count ≡ 11 → IsGroupOf sum (Some h.tick) old.channels answer
+        → Completes old g (Some answer)
+    whole_done answer eleven is fed seen tens =
+        let on = goes_on old.clock old.samples old.channels fed g v ticked tens old.hours old.sum seen h
+        (next_some old.hours v h next) in
+        whole_completes old.clock old.samples old.channels fed g v ticked tens old.hours old.sum seen h on answer
+        eleven (is (map as_part (tens_from fed h.tick h.count ++ g ∷ [])) (summed fed seen))
+
+    pub whole_seen : (new : TwoHourView) → h.count ≡ 11 → new.hours ≡ None → SeesMore old new g
+    whole_seen new eleven is fed seen tens =
+        let on = goes_on old.clock old.samples old.channels fed g v ticked tens old.hours old.sum seen h
+        (next_some old.hours v h next) in
+        subst (λ o. RunsAfter (fed ++ g ∷ []) new.sum o) (sym is)
+        (whole_runs old.clock old.samples old.channels fed g v ticked tens old.hours old.sum seen h on eleven)
+
+    pub part_done : (h.count ≡ 11 → ⊥) → Completes old g None
+    part_done other fed seen tens =
+        let on = goes_on old.clock old.samples old.channels fed g v ticked tens old.hours old.sum seen h
+        (next_some old.hours v h next) in
+        part_completes old.clock old.samples old.channels fed g v ticked tens old.hours old.sum seen h on other
+
+    pub part_seen : (new : TwoHourView) → (h.count ≡ 11 → ⊥) → new.sum ≡ sum
+        → new.hours ≡ Some (record { tick = h.tick; count = h.count + 1 }) → SeesMore old new g
+    part_seen new other sum_is is fed seen tens =
+        let on = goes_on old.clock old.samples old.channels fed g v ticked tens old.hours old.sum seen h
+        (next_some old.hours v h next) in
+        let one : suc h.count ≡ h.count + 1 = omega arith in
+        let parts : tens_from (fed ++ g ∷ []) h.tick (h.count + 1) ≡ tens_from fed h.tick h.count ++ g ∷ [] =
+        ap (tens_from (fed ++ g ∷ []) h.tick) (sym one)
+        ∙ parts_more old.clock old.samples old.channels fed g v ticked tens old.hours old.sum seen h on in
+        subst (λ o. RunsAfter (fed ++ g ∷ []) new.sum o) (sym is) (
+          part_runs old.clock old.samples old.channels fed g v ticked tens old.hours old.sum seen h on other,
+          subst (λ gs. HasSummed new.sum (map as_part gs)) (sym parts)
+              (subst (λ s. HasSummed s (map as_part (tens_from fed h.tick h.count ++ g ∷ []))) (sym sum_is)
+              (summed fed seen)),
+        )
+
+-- ---- bounds
+
+-- a tick of a recording lies near 1970
+pub tick_near : (clock : Clock) (n period : ℕ) (t : ℤ) → IsClock clock → n ≤ MOST_SAMPLES
+    → IsTick clock n period t → IsWithin (9 * 10 ^ 9) t
+tick_near clock n period t sound short is =
+    let small = time_small clock n sound short in
+    let after = is.not_before in
+    let before = is.not_after in
+    let from = sound.t0 in
+    (omega (arith, ints, small, after, before, from), omega (arith, ints, small, after, before, from))
+
+-- and so do the two hours that it goes on with
+pub next_near : (old : TwoHourView) (g : Group) (v : ℤ) (h : TwoHours) → g.tick ≡ Some v
+    → IsSetting old.clock old.samples old.channels → MayFollow old g → next_hours old.hours v ≡ Some h
+    → IsWithin (10 ^ 10) h.tick × (h.count ≤ 11)
+next_near old g v h ticked setting may next =
+    let on = goes_on old.clock old.samples old.channels may.0 g v ticked may.2 old.hours old.sum may.1 h
+    (next_some old.hours v h next) in
+    let near = tick_near old.clock old.samples 600 v setting.timed setting.short
+    (tick_of_last old.clock old.samples may.0 g v ticked may.2) in
+    let few = on.1 in
+    let is = on.2 in
+    ((omega (arith, ints, near, few, is), omega (arith, ints, near, few, is)), few)

@@ -1,14 +1,16 @@
 -- What contracts see of the machine for 2-hour intervals, over the 10-minute intervals that it was fed.
-use Rattle.std.specs.Prelude.{◌≡◌, ℕ, ◌+◌, ◌*◌, ◌≤◌, Bool, if◌then◌else◌, List, [], ◌∷◌, ◌++◌, length, map, find, filter_map, ℤ, pos, ◌+ℤ◌, ◌<ℤ◌, Option, Some, None, IfSome, option_and_then, option_to_list, slice_get, All}
+use Rattle.std.specs.Prelude.{◌≡◌, ℕ, ◌+◌, ◌*◌, ◌^◌, ◌≤◌, Bool, if◌then◌else◌, List, [], ◌∷◌, ◌++◌, length, map, find, filter_map, ℤ, pos, ◌+ℤ◌, ◌<ℤ◌, Option, Some, None, IfSome, option_and_then, option_to_list, slice_get, All}
 use Rattle.std.specs.Int.{int_rem_euclid}
+use Rattle.std.specs.Option.{ForSome}
 use Rattle.std.specs.Ordering.{int_eq}
 use Rattle.aggregate.specs.declared.group.Group.{Group}
 use Rattle.aggregate.specs.declared.two_hour.TwoHours.{TwoHours}
 use Rattle.aggregate.specs.Aggregation.{as_part, has_tick, two_hour_groups}
-use Rattle.aggregate.specs.BasicOrder.{AreQuiet}
+use Rattle.aggregate.specs.BasicOrder.{AreQuiet, IsSetting}
 use Rattle.aggregate.specs.Sum.{SumView, HasSummed}
 use Rattle.pq_time.specs.declared.clock.Clock.{Clock}
 use Rattle.pq_time.specs.Tick.{IsTick}
+use Rattle.pq_words.specs.Magnitude.{IsWithin}
 use Rattle.pq_words.specs.Steps.{steps_from}
 
 -- a 10-minute interval of a tick, with a value for each of sixteen channels
@@ -41,6 +43,16 @@ abbrev pub next_hours : Option TwoHours → ℤ → Option TwoHours
 next_hours hours tick =
     if begins_two_hours tick then Some (record { tick = tick; count = 0 })
     else option_and_then (λ h. if int_eq (next_ten h) tick then Some h else None) hours
+
+-- two hours within range: their tick lies near 1970, and they have at most as many 10-minute intervals as two hours
+pub record IsNear (tick : ℤ) (count : ℕ) : Type 0 where
+  pub near : IsWithin (10 ^ 10) tick
+  pub few : count ≤ 12
+
+-- what the machine holds: a recording's setting, and two hours within range
+pub record IsTwoHourSum (clock : Clock) (n channels : ℕ) (hours : Option TwoHours) : Type 0 where
+  pub setting : IsSetting clock n channels
+  pub range : ForSome hours (λ h. IsNear h.tick h.count)
 
 -- two hours run from a tick on: so many 10-minute intervals from it, fewer than twelve, are all there, and no
 -- later one
