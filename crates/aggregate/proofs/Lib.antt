@@ -6,5 +6,6 @@ pub mod SegmentLaws
 pub mod TenStepLaws
 pub mod TenSumLaws
 pub mod MinuteLaws
+pub mod TensLaws
 pub mod TwoHourStepLaws
 pub mod TwoHourSumLaws

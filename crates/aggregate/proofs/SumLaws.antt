@@ -90,7 +90,7 @@ summed_none zeros none = record {
 
 -- ---- in range
 
-quiet_at : (values : List ℕ) (k : ℕ) → AreQuiet values → slice_index values k ≤ MOST_MICROVOLTS
+pub quiet_at : (values : List ℕ) (k : ℕ) → AreQuiet values → slice_index values k ≤ MOST_MICROVOLTS
 quiet_at values k quiet = elim (cases_lt k (length values)) [
   | inl inside ↦ quiet k 0 inside
   | inr past ↦ omega (arith, get_or_past values k 0 past)
