@@ -7,5 +7,7 @@ pub mod TenStepLaws
 pub mod TenSumLaws
 pub mod MinuteLaws
 pub mod TensLaws
+pub mod TwoHourStepLaws
+pub mod TwoHourSumLaws
 pub mod AggregatorLaws
 pub mod WholeListLaws

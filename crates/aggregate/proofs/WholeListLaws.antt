@@ -30,7 +30,7 @@ no_ten : (clock : Clock) (n channels : ℕ) (tick next : ℤ) → ten_group cloc
 unfolding ten_group segment_of first_between first_of
 no_ten clock n channels tick next = refl
 
-no_tens : (clock : Clock) (n channels : ℕ) → ten_groups clock n channels [] ≡ []
+pub no_tens : (clock : Clock) (n channels : ℕ) → ten_groups clock n channels [] ≡ []
 unfolding ten_groups
 no_tens clock n channels = none_kept (λ p. ten_group clock n channels [] p.0 p.1) (tick_pairs clock n 600)
     (λ p. no_ten clock n channels p.0 p.1)
