@@ -1,13 +1,13 @@
 -- The ten minutes in which a place lies, told by the moment of its sample.
-use Rattle.std.proofs.Common.{◌≡◌, ◌⊎◌, ◌↔◌, ℕ, zero, suc, ◌+◌, ◌-◌, ◌*◌, ◌/◌, ◌%◌, ◌^◌, ◌<◌, ◌≤◌, Bool, true, false, cond, ◌&&◌, nat_lt, nat_le, List, [], ◌∷◌, find, ℤ, pos, negsuc, ◌+ℤ◌, ◌*ℤ◌, ◌≤ℤ◌, ◌<ℤ◌, IsTrue, Option, Some, None, option_map, unwrap_or, Contains, FitsSigned, to_z, of_z, w64, refl, sym, ◌∙◌, ap, subst, inl, inr, arith, lit<}
+use Rattle.std.proofs.Common.{◌≡◌, ℕ, zero, suc, ◌-◌, ◌*◌, ◌/◌, ◌%◌, ◌^◌, ◌<◌, ◌≤◌, Bool, true, false, cond, ◌&&◌, nat_lt, nat_le, find, ℤ, pos, negsuc, ◌+ℤ◌, ◌*ℤ◌, ◌≤ℤ◌, ◌<ℤ◌, Option, Some, None, option_map, unwrap_or, FitsSigned, to_z, of_z, w64, refl, sym, ◌∙◌, ap, subst, inl, inr, arith, lit<}
 use Rattle.std.specs.Int.{int_div_euclid, int_rem_euclid}
 use Rattle.std.specs.Prelude.{int_le}
-use Rattle.std.proofs.lemmas.Bool.{cases_lt, cases_Bool}
+use Rattle.std.proofs.lemmas.Bool.{cases_lt}
 use Rattle.std.proofs.lemmas.Bool.Decides.{nat_tests}
 use Rattle.std.proofs.lemmas.Int.{by_lt_z, ints, to_z-of_z}
 use Rattle.std.proofs.lemmas.Option.{same_Some}
 use Rattle.pq_time.specs.declared.clock.Clock.{Clock}
-use Rattle.pq_time.specs.Tick.{IsTick, HasTicks, last_period, moment_of, tick_place, ticks}
+use Rattle.pq_time.specs.Tick.{IsTick, last_period, moment_of, tick_place, ticks}
 use Rattle.pq_time.specs.Time.{IsClock, is_taken_by, place_of, time_of}
 use Rattle.pq_time.proofs.PlaceLaws.{passed_small, taken_stays}
 use Rattle.pq_time.proofs.TickLaws.{ticks_exact}

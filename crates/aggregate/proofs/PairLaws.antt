@@ -102,8 +102,8 @@ last_after place y s (t ∷ v ∷ vs) u rise (inl same) from until =
         (λ g. omega (arith, e, from, h), later w ws (omega (arith, h, step)) r.1)
 last_after place y s (t ∷ v ∷ vs) u rise (inr is) from until = (
   (λ h. let past = (between place s (t, v) h).1 in
-  let bound = at_least (v) vs rise.1 is in
-  absurd (omega (arith, past, bound, until))),
+      let bound = at_least (v) vs rise.1 is in
+      absurd (omega (arith, past, bound, until))),
   last_after place y s (v ∷ vs) u rise.1 is from until,
 )
   where

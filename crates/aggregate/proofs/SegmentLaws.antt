@@ -1,5 +1,5 @@
 -- A tick's segment by recursion over the basic intervals, and of a list whose last segment is known.
-use Rattle.std.proofs.Common.{◌≡◌, ℕ, zero, suc, ◌+◌, ◌-◌, ◌<◌, ◌≤◌, Bool, true, false, cond, ◌&&◌, ◌||◌, nat_lt, nat_le, List, [], ◌∷◌, ◌++◌, length, take, drop, Option, Some, None, option_map, unwrap_or, refl, sym, ◌∙◌, ap, arith}
+use Rattle.std.proofs.Common.{◌≡◌, ℕ, zero, suc, ◌+◌, ◌-◌, ◌<◌, Bool, true, false, cond, ◌&&◌, ◌||◌, nat_lt, nat_le, List, [], ◌∷◌, ◌++◌, length, take, drop, Option, Some, None, option_map, unwrap_or, refl, sym, ◌∙◌, ap, arith}
 use Rattle.std.specs.List.{AllByRecursion}
 use Rattle.std.specs.Option.{option_or}
 use Rattle.std.proofs.lemmas.Bool.Decides.{nat_tests}
@@ -104,7 +104,7 @@ at_first b bs =
     ap (λ o. unwrap_or o (suc (length bs))) (later_between (is_front_from (b ∷ bs) 0) 0 (length bs))
     ∙ later_end (first_between (is_front_from bs 0) 0 (length bs)) (length bs) in
     let d : suc (unwrap_or (first_between (is_front_from bs 0) 0 (length bs)) (length bs)) - 0
-        ≡ suc (unwrap_or (first_between (is_front_from bs 0) 0 (length bs)) (length bs)) = omega arith in
+    ≡ suc (unwrap_or (first_between (is_front_from bs 0) 0 (length bs)) (length bs)) = omega arith in
     ap (λ m. take (m - 0) (b ∷ bs)) e ∙ ap (λ m. take m (b ∷ bs)) d ∙ ap (λ xs. b ∷ xs) (until_first bs)
 
 pub segment_is : (place : ℕ) (bs : List Basic) → segment_of bs place ≡ segment_from place bs

@@ -1,6 +1,5 @@
 -- One more basic interval: the 10-minute interval that it completes, if it does.
-use Rattle.std.proofs.Common.{◌≡◌, ℕ, ◌+◌, ◌<◌, ◌≤◌, Bool, true, false, cond, ◌&&◌, nat_lt, nat_le, List, [], ◌∷◌, ◌++◌, map, find, ℤ, Option, Some, None, option_map, option_and_then, option_to_list, refl, sym, ◌∙◌, ap, subst, arith}
-use Rattle.std.specs.Bool.{⊤}
+use Rattle.std.proofs.Common.{◌≡◌, ℕ, ◌<◌, ◌≤◌, Bool, true, false, cond, ◌&&◌, nat_lt, nat_le, List, [], ◌∷◌, ◌++◌, find, ℤ, Option, Some, None, option_map, option_and_then, option_to_list, refl, sym, ◌∙◌, ap, arith}
 use Rattle.std.specs.List.{AllByRecursion}
 use Rattle.std.specs.Option.{option_or}
 use Rattle.std.proofs.lemmas.Bool.{both_ways}
@@ -9,7 +8,6 @@ use Rattle.std.proofs.lemmas.List.{map-append}
 use Rattle.pq_time.specs.declared.clock.Clock.{Clock}
 use Rattle.pq_time.specs.Tick.{tick_place, ticks}
 use Rattle.aggregate.specs.declared.group.Group.{Group}
-use Rattle.aggregate.specs.declared.ten.TenMinutes.{TenMinutes}
 use Rattle.aggregate.specs.Aggregation.{Part, Basic, group_of, parts_of, reaches, ten_group, ten_groups, tick_pairs}
 use Rattle.aggregate.specs.BasicOrder.{Follows, HasTickBetween}
 use Rattle.aggregate.specs.TenSum.{completed, lies_between, minutes_at}
@@ -188,7 +186,7 @@ module _ (clock : Clock) (n channels : ℕ) where
       each m starts [] g = tt
       each m starts (p ∷ ps) g = (
         (λ is. none_from (tick_place clock n p.0) (x ∷ xs)
-        (starts_before (tick_place clock n p.0) m (x ∷ xs) (g.0 is) starts)),
+            (starts_before (tick_place clock n p.0) m (x ∷ xs) (g.0 is) starts)),
         each m starts ps g.1,
       )
 
@@ -243,12 +241,12 @@ module _ (clock : Clock) (n channels : ℕ) where
       each [] g = tt
       each (p ∷ ps) g = (
         (λ is.
-        let none = g.0 is in (
-          segment_none before [] f begins tt tt p none,
-          ten_here before [] f begins tt tt p none (between (tick_place clock n) f.part.start p is).0
-              ∙ ap (λ c. cond c (Some (group_of (Some p.0) channels (parts_of (f ∷ [])))) None)
-              (reached_last (tick_place clock n p.1) [] f.part tt),
-        )),
+            let none = g.0 is in (
+              segment_none before [] f begins tt tt p none,
+              ten_here before [] f begins tt tt p none (between (tick_place clock n) f.part.start p is).0
+                  ∙ ap (λ c. cond c (Some (group_of (Some p.0) channels (parts_of (f ∷ [])))) None)
+                  (reached_last (tick_place clock n p.1) [] f.part tt),
+            )),
         each ps g.1,
       )
 
@@ -322,12 +320,12 @@ module _ (clock : Clock) (n channels : ℕ) where
       each follow follow_rest [] g i = tt
       each follow follow_rest (p ∷ ps) g i = (
         (λ is.
-        let none = g.0 is in
-        let from = (between (tick_place clock n) f.part.start p is).0 in
-        let last = over_last f rest b follow within goes_on p i.0 in (
-          ten_here before rest f begins within follow_rest p none from ∙ last.0,
-          ten_here before (rest ++ b ∷ []) f begins (within_push rest b within goes_on) follow p none from
-              ∙ last.1,
-        )),
+            let none = g.0 is in
+            let from = (between (tick_place clock n) f.part.start p is).0 in
+            let last = over_last f rest b follow within goes_on p i.0 in (
+              ten_here before rest f begins within follow_rest p none from ∙ last.0,
+              ten_here before (rest ++ b ∷ []) f begins (within_push rest b within goes_on) follow p none from
+                  ∙ last.1,
+            )),
         each follow follow_rest ps g.1 i.1,
       )

@@ -1,6 +1,5 @@
 -- What the machine for 10-minute intervals keeps agrees with what it was fed, and goes on to.
-use Rattle.std.proofs.Common.{◌≡◌, ◌⊎◌, ℕ, zero, suc, ◌+◌, ◌<◌, ◌≤◌, true, false, cond, ◌&&◌, nat_lt, nat_le, List, [], ◌∷◌, ◌++◌, length, map, Option, Some, None, option_and_then, option_to_list, slice_get, All, append_assoc, refl, sym, ◌∙◌, ap, subst, inl, inr, arith}
-use Rattle.std.specs.Bool.{⊤}
+use Rattle.std.proofs.Common.{◌≡◌, ◌⊎◌, ℕ, suc, ◌+◌, ◌<◌, true, false, cond, ◌&&◌, nat_lt, nat_le, List, [], ◌∷◌, ◌++◌, length, Option, Some, None, option_and_then, option_to_list, append_assoc, refl, sym, ◌∙◌, ap, subst, inl, inr, arith}
 use Rattle.std.specs.List.{AllByRecursion}
 use Rattle.std.proofs.lemmas.Bool.{cases_Bool}
 use Rattle.std.proofs.lemmas.List.{length-append, length-map, map-append}
@@ -13,7 +12,6 @@ use Rattle.aggregate.specs.BasicOrder.{AreBasics, IsBasic, BeginsAtFront}
 use Rattle.aggregate.specs.Sum.{Adds, SumView, HasSummed}
 use Rattle.aggregate.specs.TenSum.{TenView, HasBegun, HasSeen, KeepsSetting, MayFollow, IsFed, IsInSegment, Completes, SeesMore, completed, minutes_at}
 use Rattle.aggregate.proofs.FollowLaws.{AreLinked, FollowFrom, follow_after, linked}
-use Rattle.aggregate.proofs.SegmentLaws.{AreWithin}
 use Rattle.aggregate.proofs.TenStepLaws.{first_completes, next_completes}
 
 -- ---- a basic interval that begins a segment
@@ -29,15 +27,20 @@ pub front_sees : (old new : TenView) (b : Basic) → b.front ≡ true → new.cl
     → new.samples ≡ old.samples → HasSummed new.sum (b.part ∷ [])
     → new.minutes ≡ minutes_at old.clock old.samples b.part.start → SeesMore old new b
 front_sees old new b begins clock samples summed minutes fed seen basics =
-    inr (fed, b, [], record {
-      parts = refl;
-      begins = begins;
-      goes_on = All-from_recursion (λ b. b.front ≡ false) [] tt;
-      summed = summed;
-      minutes =
-          minutes ∙ ap (λ c. minutes_at c old.samples b.part.start) (sym clock)
-              ∙ ap (λ n. minutes_at new.clock n b.part.start) (sym samples);
-    })
+    inr (
+      fed,
+      b,
+      [],
+      record {
+        parts = refl;
+        begins = begins;
+        goes_on = All-from_recursion (λ b. b.front ≡ false) [] tt;
+        summed = summed;
+        minutes =
+            minutes ∙ ap (λ c. minutes_at c old.samples b.part.start) (sym clock)
+            ∙ ap (λ n. minutes_at new.clock n b.part.start) (sym samples);
+      },
+    )
 
 -- ---- one that goes on with it
 
@@ -87,15 +90,20 @@ next_sees old new b goes_on clock samples minutes summed fed (inr seen) basics =
     let f = seen.1 in
     let rest = seen.2 in
     let s = seen.3 in
-    inr (before, f, rest ++ b ∷ [], record {
-      parts = pushed fed before f rest b s.parts;
-      begins = s.begins;
-      goes_on = All-push (λ b. b.front ≡ false) rest b s.goes_on goes_on;
-      summed = summed before f rest fed s;
-      minutes =
-          minutes ∙ s.minutes ∙ ap (λ c. minutes_at c old.samples f.part.start) (sym clock)
-              ∙ ap (λ n. minutes_at new.clock n f.part.start) (sym samples);
-    })
+    inr (
+      before,
+      f,
+      rest ++ b ∷ [],
+      record {
+        parts = pushed fed before f rest b s.parts;
+        begins = s.begins;
+        goes_on = All-push (λ b. b.front ≡ false) rest b s.goes_on goes_on;
+        summed = summed before f rest fed s;
+        minutes =
+            minutes ∙ s.minutes ∙ ap (λ c. minutes_at c old.samples f.part.start) (sym clock)
+            ∙ ap (λ n. minutes_at new.clock n f.part.start) (sym samples);
+      },
+    )
 
 -- ---- a step: the machine begins a segment or goes on with one, and adds the basic interval to its sum
 

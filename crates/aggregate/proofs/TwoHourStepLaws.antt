@@ -1,11 +1,9 @@
 -- One more 10-minute interval: the 2-hour interval that it completes, if it does, and what runs after it.
-use Rattle.std.proofs.Common.{◌≡◌, ◌⊎◌, ℕ, zero, suc, ◌+◌, ◌-◌, ◌*◌, ◌/◌, ◌%◌, ◌<◌, ◌≤◌, ◌==◌, Bool, true, false, cond, nat_lt, List, [], ◌∷◌, ◌++◌, length, map, find, filter_map, ℤ, pos, negsuc, ◌+ℤ◌, ◌-ℤ◌, ◌*ℤ◌, ◌≤ℤ◌, ◌<ℤ◌, Option, Some, None, IfSome, option_and_then, option_to_list, slice_get, All, refl, sym, ◌∙◌, ap, subst, inl, inr, arith}
-use Rattle.std.specs.Bool.{⊤}
+use Rattle.std.proofs.Common.{◌≡◌, ◌⊎◌, ℕ, zero, suc, ◌+◌, ◌-◌, ◌*◌, ◌/◌, ◌%◌, ◌<◌, ◌≤◌, ◌==◌, Bool, true, false, cond, List, [], ◌∷◌, ◌++◌, length, map, find, filter_map, ℤ, pos, negsuc, ◌+ℤ◌, ◌-ℤ◌, ◌*ℤ◌, ◌≤ℤ◌, ◌<ℤ◌, Option, Some, None, IfSome, option_to_list, All, refl, sym, ◌∙◌, ap, subst, inl, inr, arith}
 use Rattle.std.specs.Int.{int_rem_euclid}
 use Rattle.std.specs.List.{AllByRecursion, cons_option}
 use Rattle.std.specs.Option.{option_map_or, option_or}
 use Rattle.std.specs.Ordering.{int_eq}
-use Rattle.std.proofs.lemmas.Bool.{cases_lt}
 use Rattle.std.proofs.lemmas.Bool.Decides.{nat_tests, Decides-int_eq}
 use Rattle.std.proofs.lemmas.Int.{by_lt_z, ints}
 use Rattle.std.proofs.lemmas.List.{append-nil, length-append}
@@ -186,7 +184,7 @@ pub last_found : (tens : List Group) (low : ℤ) (k : ℕ) → length (tens_from
     → ((x : Group) × (find (has_tick (low +ℤ pos (600 * k))) tens ≡ Some x)) × (length (tens_from tens low k) ≡ k)
 last_found tens low k e =
     let parts : tens_from tens low (suc k) ≡ tens_from tens low k
-        ++ cons_option (find (has_tick (low +ℤ pos (600 * k))) tens) [] =
+    ++ cons_option (find (has_tick (low +ℤ pos (600 * k))) tens) [] =
     ap (filter_map (λ t. find (has_tick t) tens)) (steps_more low k)
     ∙ filter_map-append (λ t. find (has_tick t) tens) (steps_from low 600 k) ((low +ℤ pos (600 * k)) ∷ []) in
     at (find (has_tick (low +ℤ pos (600 * k))) tens) refl
@@ -427,7 +425,7 @@ module _ (tens : List Group) (g : Group) (v : ℤ) (ticked : g.tick ≡ Some v) 
     few = omega (arith, few);
     all =
         ap length (from_upto tens g v ticked below t k is) ∙ length-append (tens_from tens t k) (g ∷ [])
-            ∙ omega (arith, all);
+        ∙ omega (arith, all);
     latest =
         All-push (λ g. IfSome g.tick (λ s. s <ℤ (t +ℤ pos (600 * suc k)))) tens g
         (All-from_recursion (λ g. IfSome g.tick (λ s. s <ℤ (t +ℤ pos (600 * suc k)))) tens
@@ -439,9 +437,10 @@ module _ (tens : List Group) (g : Group) (v : ℤ) (ticked : g.tick ≡ Some v) 
           → AllByRecursion (λ g. IfSome g.tick (λ s. s <ℤ (t +ℤ pos (600 * suc k)))) gs
       sooner [] h le = tt
       sooner (x ∷ xs) h le =
-          let less = h.0.2 in
-          (subst (λ o. IfSome o (λ s. s <ℤ (t +ℤ pos (600 * suc k)))) (sym h.0.1) (omega (arith, ints, less, le)),
-          sooner xs h.1 le)
+          let less = h.0.2 in (
+            subst (λ o. IfSome o (λ s. s <ℤ (t +ℤ pos (600 * suc k)))) (sym h.0.1) (omega (arith, ints, less, le)),
+            sooner xs h.1 le,
+          )
 
 -- those that run at a list are there up to a second, if all in the list lie before that
 pub running_to : (tens : List Group) (t v : ℤ) (k : ℕ) → AreBelow v tens → int_rem_euclid t (pos 7200) ≡ pos 0
@@ -461,6 +460,7 @@ running_to tens t v k below whole few is all = record {
         → AllByRecursion (λ g. IfSome g.tick (λ s. s <ℤ (t +ℤ pos (600 * suc k)))) gs
     sooner [] h le = tt
     sooner (x ∷ xs) h le =
-        let less = h.0.2 in
-        (subst (λ o. IfSome o (λ s. s <ℤ (t +ℤ pos (600 * suc k)))) (sym h.0.1) (omega (arith, ints, less, le)),
-        sooner xs h.1 le)
+        let less = h.0.2 in (
+          subst (λ o. IfSome o (λ s. s <ℤ (t +ℤ pos (600 * suc k)))) (sym h.0.1) (omega (arith, ints, less, le)),
+          sooner xs h.1 le,
+        )

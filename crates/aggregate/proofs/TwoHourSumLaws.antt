@@ -1,5 +1,5 @@
 -- What the machine for 2-hour intervals keeps agrees with what it was fed, and goes on to.
-use Rattle.std.proofs.Common.{◌≡◌, ◌⊎◌, ℕ, zero, suc, ◌+◌, ◌*◌, ◌^◌, ◌<◌, ◌≤◌, ◌==◌, Bool, true, false, cond, List, [], ◌∷◌, ◌++◌, length, map, find, ℤ, pos, ◌+ℤ◌, ◌*ℤ◌, ◌≤ℤ◌, ◌<ℤ◌, Option, Some, None, IfSome, option_and_then, option_to_list, slice_get, All, refl, sym, ◌∙◌, ap, subst, inl, inr, arith}
+use Rattle.std.proofs.Common.{◌≡◌, ◌⊎◌, ℕ, zero, suc, ◌+◌, ◌*◌, ◌^◌, ◌≤◌, ◌==◌, Bool, true, false, cond, List, [], ◌∷◌, ◌++◌, length, map, ℤ, pos, ◌+ℤ◌, ◌≤ℤ◌, ◌<ℤ◌, Option, Some, None, IfSome, option_and_then, option_to_list, slice_get, refl, sym, ◌∙◌, ap, subst, inl, inr, arith}
 use Rattle.std.specs.Bool.{⊤}
 use Rattle.std.specs.Int.{int_rem_euclid}
 use Rattle.std.specs.List.{AllByRecursion}
@@ -19,7 +19,7 @@ use Rattle.aggregate.specs.declared.two_hour.TwoHours.{TwoHours}
 use Rattle.aggregate.specs.Aggregation.{as_part, group_of, has_tick, two_hour_group, two_hour_groups}
 use Rattle.aggregate.specs.BasicOrder.{IsSetting}
 use Rattle.aggregate.specs.Sum.{Adds, HasSummed, IsGroupOf, SumView}
-use Rattle.aggregate.specs.TwoHourSum.{AreRunning, AreTens, Completes, HasSeen, IsTen, KeepsSetting, MayFollow, NoneRun, RunsAfter, SeesMore, TwoHourView, begins_two_hours, next_hours, next_ten, tens_from}
+use Rattle.aggregate.specs.TwoHourSum.{AreRunning, AreTens, Completes, HasSeen, IsTen, MayFollow, NoneRun, RunsAfter, SeesMore, TwoHourView, begins_two_hours, next_hours, next_ten, tens_from}
 use Rattle.pq_words.specs.declared.limits.TheConstants.{MOST_SAMPLES}
 use Rattle.pq_words.specs.Magnitude.{IsWithin}
 use Rattle.aggregate.proofs.FollowLaws.{among_contains, contains_among}
@@ -42,8 +42,8 @@ rise_from a [] h = tt
 rise_from a (b ∷ bs) h = (
   (λ s t x y. h 0 a b s t refl refl x y),
   rise_from b bs (λ i x y s t at next u w.
-  let step : suc i + 1 ≡ suc (i + 1) = omega arith in
-  h (suc i) x y s t at (ap (slice_get (a ∷ b ∷ bs)) step ∙ next) u w),
+      let step : suc i + 1 ≡ suc (i + 1) = omega arith in
+      h (suc i) x y s t at (ap (slice_get (a ∷ b ∷ bs)) step ∙ next) u w),
 )
 
 -- all before the last lie below its tick
@@ -231,12 +231,14 @@ module _ (clock : Clock) (n channels : ℕ) (fed : List Group) (g : Group) (v : 
       two_completes channels fed g v ticked below divisible None clock n (λ t is from until.
       let whole = whole_tick t is in
       let k = tens_between t v whole divisible from until in
-      let here = two_here channels fed g v ticked below t k.0 k.1 k.2 in
-      (here.0, here.1 ∙ not_made t (tens_from fed t k.0 ++ g ∷ []) (λ twelve.
-      let most = from_most fed t k.0 in
-      let more = length-append (tens_from fed t k.0) (g ∷ []) in
-      let few = k.1 in
-      no_run none t k.0 whole few k.2 (omega (arith, twelve, most, more, few)))))
+      let here = two_here channels fed g v ticked below t k.0 k.1 k.2 in (
+        here.0,
+        here.1 ∙ not_made t (tens_from fed t k.0 ++ g ∷ []) (λ twelve.
+            let most = from_most fed t k.0 in
+            let more = length-append (tens_from fed t k.0) (g ∷ []) in
+            let few = k.1 in
+            no_run none t k.0 whole few k.2 (omega (arith, twelve, most, more, few))),
+      ))
       (inl refl)
 
   none_runs : next_hours hours v ≡ None → NoneRun (fed ++ g ∷ [])

@@ -1,9 +1,9 @@
 -- A front begins the sum anew; then the basic interval is added, and may reach the next tick.
-use Rattle.std.proofs.Common.{◌≡◌, ◌⊎◌, ◌&&◌, ◌<◌, ◌≤◌, nat_lt, nat_le, true, false, Some, None, FitsSigned, w64, rules, refl, sym, ◌∙◌, ap, subst, inl, inr, arith}
+use Rattle.std.proofs.Common.{◌≡◌, ◌&&◌, nat_lt, nat_le, true, false, Some, None, FitsSigned, w64, rules, refl, sym, ◌∙◌, ap, subst, inl, inr, arith}
 use Rattle.std.proofs.lemmas.Bool.{cases_Bool}
 use Rattle.std.proofs.lemmas.Int.{to_z-of_z}
-use Rattle.aggregate.specs.Aggregation.{Basic, group_of, parts_of}
-use Rattle.aggregate.specs.Sum.{Adds, SumView}
+use Rattle.aggregate.specs.Aggregation.{group_of, parts_of}
+use Rattle.aggregate.specs.Sum.{Adds}
 use Rattle.aggregate.specs.BasicOrder.{basic_of}
 use Rattle.aggregate.specs.TenSum.{TenView}
 use Rattle.aggregate.proofs.TenSumLaws.{last_basic, room_in, step_completes, step_sees, told_none, told_missed, told_reached}

@@ -1,13 +1,11 @@
 -- A 10-minute interval begins two hours or goes on with them, and may be their last; else none run.
-use Rattle.std.proofs.Common.{◌≡◌, ℕ, ◌+◌, ◌^◌, ◌<◌, ◌≤◌, Bool, true, false, ℤ, [], Option, Some, None, FitsSigned, to_z, of_z, w64, rules, refl, sym, ◌∙◌, ap, subst, inl, inr, arith}
-use Rattle.std.proofs.lemmas.Bool.{cases_Bool}
-use Rattle.std.proofs.lemmas.Int.{ints, to_z-of_z}
+use Rattle.std.proofs.Common.{◌≡◌, ℕ, ◌+◌, ◌^◌, true, false, ℤ, [], Option, Some, None, FitsSigned, to_z, of_z, w64, rules, refl, sym, ◌∙◌, ap, subst, arith}
+use Rattle.std.proofs.lemmas.Int.{to_z-of_z}
 use Rattle.std.proofs.lemmas.Option.{same_Some}
-use Rattle.aggregate.specs.declared.group.Group.{Group}
 use Rattle.aggregate.specs.declared.two_hour.TwoHours.{TwoHours}
 use Rattle.aggregate.specs.Aggregation.{as_part}
 use Rattle.aggregate.specs.BasicOrder.{IsSetting}
-use Rattle.aggregate.specs.Sum.{Adds, HasSummed, IsGroupOf, SumView}
+use Rattle.aggregate.specs.Sum.{Adds, HasSummed, IsGroupOf}
 use Rattle.aggregate.specs.TwoHourSum.{IsNear, TwoHourView, begins_two_hours, next_hours}
 use Rattle.pq_words.specs.Magnitude.{IsWithin}
 use Rattle.aggregate.proofs.TwoHourSumLaws.{last_ten, next_near, none_done, none_seen, part_done, part_seen, room_for, whole_done, whole_seen}
