@@ -43,7 +43,8 @@ pub follow_after : (clock : Clock) (n : ℕ) (xs : List Basic) (f : Basic) (rest
 follow_after clock n [] f rest h = h
 follow_after clock n (x ∷ xs) f rest h = in_rest x xs h
   where
-    in_rest : (x : Basic) (xs : List Basic) → FollowFrom clock n x (xs ++ f ∷ rest) → FollowFrom clock n f rest
+    in_rest : (x : Basic) (xs : List Basic) → FollowFrom clock n x (xs ++ f ∷ rest)
+        → FollowFrom clock n f rest
     in_rest x [] h = h.1
     in_rest x (y ∷ ys) h = in_rest y ys h.1
 

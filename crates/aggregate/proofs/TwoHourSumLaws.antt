@@ -112,7 +112,12 @@ next_some hours v h e = at (begins_two_hours v) refl e
     on (Some x) is e = passed (int_eq (next_ten x) v) refl e
       where
         passed : (b : Bool) → int_eq (next_ten x) v ≡ b → cond b (Some x) None ≡ Some h → IsNext (Some x) v h
-        passed true same e = inr (is, e, ap next_ten (sym (same_Some x h e)) ∙ (Decides-int_eq (next_ten x) v).0 same)
+        passed true same e = inr (
+          is,
+          e,
+          ap next_ten (sym (same_Some x h e))
+              ∙ (Decides-int_eq (next_ten x) v).0 same,
+        )
         passed false same e = absurd (let bad : ⊥ = cc in bad)
 
     at : (b : Bool) → begins_two_hours v ≡ b
@@ -145,7 +150,8 @@ module _ (clock : Clock) (n channels : ℕ) (fed : List Group) (g : Group) (v : 
       at t zero r = let some = r.some in absurd (omega (arith, some))
       at t (suc k) r =
           let last = (last_found fed t k r.all).0 in
-          let found = found_is (λ g. (s : ℤ) × (g.tick ≡ Some s) × (s <ℤ v)) (has_tick (t +ℤ pos (600 * k))) fed
+          let found = found_is (λ g. (s : ℤ) × (g.tick ≡ Some s)
+          × (s <ℤ v)) (has_tick (t +ℤ pos (600 * k))) fed
           last.0 below last.1 in
           let tick = found.0 in
           let same = tick_of_found (t +ℤ pos (600 * k)) tick.0 last.0 tick.1 found.1 in
@@ -169,16 +175,19 @@ module _ (clock : Clock) (n channels : ℕ) (fed : List Group) (g : Group) (v : 
       latest_at : (h : TwoHours) → AreRunning fed h.tick h.count → (t +ℤ pos (600 * k)) <ℤ next_ten h
       latest_at h r =
           let last = (last_found fed t k all).0 in
-          let found = found_is (λ g. (s : ℤ) × (g.tick ≡ Some s) × (s <ℤ v)) (has_tick (t +ℤ pos (600 * k))) fed
+          let found = found_is (λ g. (s : ℤ) × (g.tick ≡ Some s)
+          × (s <ℤ v)) (has_tick (t +ℤ pos (600 * k))) fed
           last.0 below last.1 in
-          let late = found_is (λ g. IfSome g.tick (λ s. s <ℤ next_ten h)) (has_tick (t +ℤ pos (600 * k))) fed last.0
+          let late = found_is (λ g. IfSome g.tick (λ s. s <ℤ next_ten h)) (has_tick (t +ℤ pos
+          (600 * k))) fed last.0
           (recursion_from_All (λ g. IfSome g.tick (λ s. s <ℤ next_ten h)) fed r.latest) last.1 in
           let tick = found.0 in
           let same = tick_of_found (t +ℤ pos (600 * k)) tick.0 last.0 tick.1 found.1 in
           let less : tick.0 <ℤ next_ten h = subst (λ o. IfSome o (λ s. s <ℤ next_ten h)) tick.1 late.0 in
           omega (arith, ints, same, less)
 
-      at : (hours : Option TwoHours) → RunsAfter fed sum hours → ((h : TwoHours) → hours ≡ Some h → next_ten h ≡ v → ⊥)
+      at : (hours : Option TwoHours) → RunsAfter fed sum hours → ((h : TwoHours) → hours ≡ Some h
+          → next_ten h ≡ v → ⊥)
           → ⊥
       at None runs other = runs t (suc k) (running_to fed t v k below whole few is all)
       at (Some h) runs other =
@@ -214,7 +223,8 @@ module _ (clock : Clock) (n channels : ℕ) (fed : List Group) (g : Group) (v : 
   its_hours h on t whole from until =
       let few = on.1 in
       let is = on.2 in
-      same_two_hours t h.tick whole on.0 (omega (arith, ints, few, is, from)) (omega (arith, ints, few, is, until))
+      same_two_hours t h.tick whole on.0 (omega (arith, ints, few, is, from)) (omega
+      (arith, ints, few, is, until))
 
   -- ---- nothing goes on
 
@@ -310,7 +320,8 @@ module _ (clock : Clock) (n channels : ℕ) (fed : List Group) (g : Group) (v : 
         let count = ran.1 in
         let is = ran.2 in
         let last = on.2 in
-        let same = its_hours h on t running.whole (omega (arith, ints, is)) (omega (arith, ints, is, few, count)) in
+        let same = its_hours h on t running.whole (omega (arith, ints, is)) (omega
+        (arith, ints, is, few, count)) in
         omega (arith, ints, same, is, last, few, count, eleven)
 
     part_completes : (h.count ≡ 11 → ⊥) → two_hour_groups clock n channels (fed ++ g ∷ [])
@@ -332,7 +343,11 @@ module _ (clock : Clock) (n channels : ℕ) (fed : List Group) (g : Group) (v : 
         (running_on fed g v ticked below divisible h.tick h.count on.0 few on.2 on.3)
       where
         ten_at_most : (c : ℕ) → c ≤ 11 → (c ≡ 11 → ⊥) → c ≤ 10
-        ten_at_most c le other = elim (cases_eq c 11) [ inl is ↦ absurd (other is) | inr no_eleven ↦ grind (arith, le, no_eleven) ]
+        ten_at_most c le other = elim (cases_eq c 11) [
+          | inl is ↦ absurd (other is)
+          | inr no_eleven ↦ grind
+              (arith, le, no_eleven)
+        ]
 
 -- ---- the ways of a step
 
@@ -388,7 +403,8 @@ module _ (old mid : TwoHourView) (sum : SumView) (g : Group) (v : ℤ) (h : TwoH
     whole_done answer eleven is fed seen tens =
         let on = goes_on old.clock old.samples old.channels fed g v ticked tens old.hours old.sum seen h
         (next_some old.hours v h next) in
-        whole_completes old.clock old.samples old.channels fed g v ticked tens old.hours old.sum seen h on answer
+        whole_completes old.clock old.samples old.channels fed g v ticked tens old.hours old.sum seen h on
+        answer
         eleven (is (map as_part (tens_from fed h.tick h.count ++ g ∷ [])) (summed fed seen))
 
     pub whole_seen : (new : TwoHourView) → h.count ≡ 11 → new.hours ≡ None → SeesMore old new g
@@ -402,7 +418,8 @@ module _ (old mid : TwoHourView) (sum : SumView) (g : Group) (v : ℤ) (h : TwoH
     part_done other fed seen tens =
         let on = goes_on old.clock old.samples old.channels fed g v ticked tens old.hours old.sum seen h
         (next_some old.hours v h next) in
-        part_completes old.clock old.samples old.channels fed g v ticked tens old.hours old.sum seen h on other
+        part_completes old.clock old.samples old.channels fed g v ticked tens old.hours old.sum seen h on
+        other
 
     pub part_seen : (new : TwoHourView) → (h.count ≡ 11 → ⊥) → new.sum ≡ sum
         → new.hours ≡ Some (record { tick = h.tick; count = h.count + 1 }) → SeesMore old new g
