@@ -1,5 +1,5 @@
 -- Basic intervals in order: each with the one before it, and the ticks between their starts.
-use Rattle.std.proofs.Common.{◌≡◌, ◌⊎◌, ◌↔◌, ℕ, zero, suc, ◌+◌, ◌<◌, ◌≤◌, Bool, true, false, List, [], ◌∷◌, ◌++◌, length, get_or, ℤ, pos, ◌+ℤ◌, ◌≤ℤ◌, Some, slice_get, Contains, refl, sym, ◌∙◌, ap, inl, inr, arith}
+use Rattle.std.proofs.Common.{◌≡◌, ℕ, zero, suc, ◌+◌, ◌<◌, ◌≤◌, List, [], ◌∷◌, ◌++◌, length, get_or, ℤ, pos, ◌+ℤ◌, ◌≤ℤ◌, Some, slice_get, Contains, refl, sym, ◌∙◌, ap, inl, inr, arith}
 use Rattle.std.specs.Bool.{⊤}
 use Rattle.std.specs.List.{AllByRecursion}
 use Rattle.std.proofs.lemmas.Int.{ints}
@@ -7,7 +7,7 @@ use Rattle.pq_time.specs.declared.clock.Clock.{Clock}
 use Rattle.pq_time.specs.Tick.{moment_of, tick_place, ticks}
 use Rattle.pq_time.proofs.PlaceLaws.{place_rises}
 use Rattle.aggregate.specs.Aggregation.{Basic}
-use Rattle.aggregate.specs.BasicOrder.{Follows, HasTickBetween}
+use Rattle.aggregate.specs.BasicOrder.{Follows}
 use Rattle.aggregate.proofs.PairLaws.{IsAmong, PlacesRise}
 use Rattle.pq_words.specs.Steps.{steps_from}
 
@@ -28,8 +28,8 @@ follow_from clock n a [] h = tt
 follow_from clock n a (b ∷ bs) h = (
   h 0 a b refl refl,
   follow_from clock n b bs (λ i x y at next.
-  let step : suc i + 1 ≡ suc (i + 1) = omega arith in
-  h (suc i) x y at (ap (slice_get (a ∷ b ∷ bs)) step ∙ next)),
+      let step : suc i + 1 ≡ suc (i + 1) = omega arith in
+      h (suc i) x y at (ap (slice_get (a ∷ b ∷ bs)) step ∙ next)),
 )
 
 pub linked : (clock : Clock) (n : ℕ) (bs : List Basic) → ((i : ℕ) (x y : Basic)
@@ -43,7 +43,8 @@ pub follow_after : (clock : Clock) (n : ℕ) (xs : List Basic) (f : Basic) (rest
 follow_after clock n [] f rest h = h
 follow_after clock n (x ∷ xs) f rest h = in_rest x xs h
   where
-    in_rest : (x : Basic) (xs : List Basic) → FollowFrom clock n x (xs ++ f ∷ rest) → FollowFrom clock n f rest
+    in_rest : (x : Basic) (xs : List Basic) → FollowFrom clock n x (xs ++ f ∷ rest)
+        → FollowFrom clock n f rest
     in_rest x [] h = h.1
     in_rest x (y ∷ ys) h = in_rest y ys h.1
 

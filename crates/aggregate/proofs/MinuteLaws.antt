@@ -1,13 +1,13 @@
 -- The ten minutes in which a place lies, told by the moment of its sample.
-use Rattle.std.proofs.Common.{◌≡◌, ◌⊎◌, ◌↔◌, ℕ, zero, suc, ◌+◌, ◌-◌, ◌*◌, ◌/◌, ◌%◌, ◌^◌, ◌<◌, ◌≤◌, Bool, true, false, cond, ◌&&◌, nat_lt, nat_le, List, [], ◌∷◌, find, ℤ, pos, negsuc, ◌+ℤ◌, ◌*ℤ◌, ◌≤ℤ◌, ◌<ℤ◌, IsTrue, Option, Some, None, option_map, unwrap_or, Contains, FitsSigned, to_z, of_z, w64, refl, sym, ◌∙◌, ap, subst, inl, inr, arith, lit<}
+use Rattle.std.proofs.Common.{◌≡◌, ℕ, zero, suc, ◌-◌, ◌*◌, ◌/◌, ◌%◌, ◌^◌, ◌<◌, ◌≤◌, Bool, true, false, cond, ◌&&◌, nat_lt, nat_le, find, ℤ, pos, negsuc, ◌+ℤ◌, ◌*ℤ◌, ◌≤ℤ◌, ◌<ℤ◌, Option, Some, None, option_map, unwrap_or, FitsSigned, to_z, of_z, w64, refl, sym, ◌∙◌, ap, subst, inl, inr, arith, lit<}
 use Rattle.std.specs.Int.{int_div_euclid, int_rem_euclid}
 use Rattle.std.specs.Prelude.{int_le}
-use Rattle.std.proofs.lemmas.Bool.{cases_lt, cases_Bool}
+use Rattle.std.proofs.lemmas.Bool.{cases_lt}
 use Rattle.std.proofs.lemmas.Bool.Decides.{nat_tests}
 use Rattle.std.proofs.lemmas.Int.{by_lt_z, ints, to_z-of_z}
 use Rattle.std.proofs.lemmas.Option.{same_Some}
 use Rattle.pq_time.specs.declared.clock.Clock.{Clock}
-use Rattle.pq_time.specs.Tick.{IsTick, HasTicks, last_period, moment_of, tick_place, ticks}
+use Rattle.pq_time.specs.Tick.{IsTick, last_period, moment_of, tick_place, ticks}
 use Rattle.pq_time.specs.Time.{IsClock, is_taken_by, place_of, time_of}
 use Rattle.pq_time.proofs.PlaceLaws.{passed_small, taken_stays}
 use Rattle.pq_time.proofs.TickLaws.{ticks_exact}
@@ -111,15 +111,18 @@ found_pair test low (suc (suc m)) p e =
     at (test (low, next)) refl e (λ g. found_pair test next (suc m) p g)
   where
     at : (b : Bool) → test (low, low +ℤ pos 600) ≡ b
-        → cond b (Some (low, low +ℤ pos 600)) (find test (pairs (steps_from (low +ℤ pos 600) 600 (suc m)))) ≡ Some p
+        → cond b (Some (low, low +ℤ pos 600)) (find test (pairs (steps_from (low +ℤ pos 600) 600
+        (suc m)))) ≡ Some p
         → (find test (pairs (steps_from (low +ℤ pos 600) 600 (suc m))) ≡ Some p
-        → IsAmong p.0 (steps_from (low +ℤ pos 600) 600 (suc m)) × IsAmong p.1 (steps_from (low +ℤ pos 600) 600 (suc m))
+        → IsAmong p.0 (steps_from (low +ℤ pos 600) 600 (suc m))
+        × IsAmong p.1 (steps_from (low +ℤ pos 600) 600 (suc m))
         × (p.1 ≡ (p.0 +ℤ pos 600)) × (test p ≡ true))
         → IsAmong p.0 (steps_from low 600 (suc (suc m))) × IsAmong p.1 (steps_from low 600 (suc (suc m)))
         × (p.1 ≡ (p.0 +ℤ pos 600)) × (test p ≡ true)
     at true is e rest =
         let same : (low, low +ℤ pos 600) ≡ p = same_Some (low, low +ℤ pos 600) p e in
-        subst (λ q. IsAmong q.0 (steps_from low 600 (suc (suc m))) × IsAmong q.1 (steps_from low 600 (suc (suc m)))
+        subst (λ q. IsAmong q.0 (steps_from low 600 (suc (suc m)))
+        × IsAmong q.1 (steps_from low 600 (suc (suc m)))
         × (q.1 ≡ (q.0 +ℤ pos 600)) × (test q ≡ true)) same (inl refl, inr (inl refl), refl, is)
     at false is e rest = let r = rest e in (inr r.0, inr r.1, r.2, r.3)
 
@@ -151,7 +154,8 @@ find_pair test t fails passes low (suc (suc m)) (inr later) (inl next) =
     absurd (omega (arith, ints, from, next))
 find_pair test t fails passes low (suc (suc m)) (inr later) (inr next) =
     let from = among_from (low +ℤ pos 600) t (suc m) later in
-    ap (λ b. cond b (Some (low, low +ℤ pos 600)) (find test (pairs (steps_from (low +ℤ pos 600) 600 (suc m)))))
+    ap (λ b. cond b (Some (low, low +ℤ pos 600)) (find test (pairs (steps_from (low +ℤ pos 600) 600
+    (suc m)))))
     (fails low from)
     ∙ find_pair test t fails passes (low +ℤ pos 600) (suc m) later next
 
@@ -192,7 +196,8 @@ module _ (clock : Clock) (n s : ℕ) (inside : s < n) where
       over : (p q : ℕ) → q ≤ s → (nat_le p s && nat_lt s q) ≡ false
       over p q h = grind (arith, nat_tests, h)
 
-  module _ (t : ℤ) (low : moment_of t ≤ℤ time_of clock s) (high : time_of clock s <ℤ moment_of (t +ℤ pos 600)) where
+  module _ (t : ℤ) (low : moment_of t ≤ℤ time_of clock s) (high : time_of clock s <ℤ moment_of
+      (t +ℤ pos 600)) where
     pub minutes_are : IsTick clock n 600 t → IsTick clock n 600 (t +ℤ pos 600)
         → minutes_at clock n s ≡ Some (record { tick = t; next = tick_place clock n (t +ℤ pos 600) })
     unfolding minutes_at
@@ -215,7 +220,8 @@ module _ (clock : Clock) (n s : ℕ) (inside : s < n) where
     unfolding minutes_at
     minutes_none whole missing = at (find (lies_between (tick_place clock n) s) (tick_pairs clock n 600)) refl
       where
-        impossible : (p : ℤ × ℤ) → find (lies_between (tick_place clock n) s) (tick_pairs clock n 600) ≡ Some p → ⊥
+        impossible : (p : ℤ × ℤ) → find (lies_between (tick_place clock n) s) (tick_pairs clock n 600)
+            ≡ Some p → ⊥
         impossible p e =
             let h = found_tick clock n (lies_between (tick_place clock n) s) p e in
             let exact = ticks_exact clock n 600 (lit< tt) in
@@ -224,7 +230,8 @@ module _ (clock : Clock) (n s : ℕ) (inside : s < n) where
             let step = h.2 in
             let inside_pair = between (tick_place clock n) s p h.3 in
             let from = taken_at clock (moment_of p.0) n s inside inside_pair.0 in
-            let until : time_of clock s <ℤ moment_of p.1 = by_lt_z (time_of clock s) (moment_of p.1) (λ less. less)
+            let until : time_of clock s <ℤ moment_of p.1 = by_lt_z (time_of clock s) (moment_of p.1)
+            (λ less. less)
             (λ back. let bound = place_by clock (moment_of p.1) n s inside back in
             let less = inside_pair.1 in absurd (omega (arith, bound, less))) in
             let same : p.0 ≡ t = same_multiple p.0 t is.divisible whole
@@ -237,15 +244,17 @@ module _ (clock : Clock) (n s : ℕ) (inside : s < n) where
         at None e = refl
         at (Some p) e = absurd (impossible p e)
 
--- the two ticks are there exactly where the first is not before the first sample, and the next not after the end
-pub minutes_by : (clock : Clock) (n s : ℕ) (t : ℤ) → s < n → t ≡ (last_period (time_of clock s) 600 *ℤ pos 600)
+-- the two ticks are there where the first is not before the first sample, and the next not after the end
+pub minutes_by : (clock : Clock) (n s : ℕ) (t : ℤ) → s < n → t
+    ≡ (last_period (time_of clock s) 600 *ℤ pos 600)
     → clock.t0 ≤ℤ moment_of t → moment_of (t +ℤ pos 600) ≤ℤ time_of clock n
     → minutes_at clock n s ≡ Some (record { tick = t; next = tick_place clock n (t +ℤ pos 600) })
 minutes_by clock n s t inside is after before =
     let down = tick_down (time_of clock s) in
     let down_low = down.0 in
     let down_high = down.1 in
-    let low : moment_of t ≤ℤ time_of clock s = subst (λ a. moment_of a ≤ℤ time_of clock s) (sym is) down_low in
+    let low : moment_of t ≤ℤ time_of clock s = subst (λ a. moment_of a ≤ℤ time_of clock s)
+    (sym is) down_low in
     let high : time_of clock s <ℤ moment_of (t +ℤ pos 600) =
     subst (λ a. time_of clock s <ℤ moment_of (a +ℤ pos 600)) (sym is) down_high in
     minutes_are clock n s inside t low high
@@ -264,12 +273,14 @@ minutes_by clock n s t inside is after before =
 
 pub minutes_none_by : (clock : Clock) (n s : ℕ) (t : ℤ) → s < n
     → t ≡ (last_period (time_of clock s) 600 *ℤ pos 600)
-    → (clock.t0 ≤ℤ moment_of t → moment_of (t +ℤ pos 600) ≤ℤ time_of clock n → ⊥) → minutes_at clock n s ≡ None
+    → (clock.t0 ≤ℤ moment_of t → moment_of (t +ℤ pos 600) ≤ℤ time_of clock n → ⊥) → minutes_at clock n s
+    ≡ None
 minutes_none_by clock n s t inside is missing =
     let down = tick_down (time_of clock s) in
     let down_low = down.0 in
     let down_high = down.1 in
-    let low : moment_of t ≤ℤ time_of clock s = subst (λ a. moment_of a ≤ℤ time_of clock s) (sym is) down_low in
+    let low : moment_of t ≤ℤ time_of clock s = subst (λ a. moment_of a ≤ℤ time_of clock s)
+    (sym is) down_low in
     let high : time_of clock s <ℤ moment_of (t +ℤ pos 600) =
     subst (λ a. time_of clock s <ℤ moment_of (a +ℤ pos 600)) (sym is) down_high in
     minutes_none clock n s inside t low high

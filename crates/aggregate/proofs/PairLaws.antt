@@ -102,8 +102,8 @@ last_after place y s (t ∷ v ∷ vs) u rise (inl same) from until =
         (λ g. omega (arith, e, from, h), later w ws (omega (arith, h, step)) r.1)
 last_after place y s (t ∷ v ∷ vs) u rise (inr is) from until = (
   (λ h. let past = (between place s (t, v) h).1 in
-  let bound = at_least (v) vs rise.1 is in
-  absurd (omega (arith, past, bound, until))),
+      let bound = at_least (v) vs rise.1 is in
+      absurd (omega (arith, past, bound, until))),
   last_after place y s (v ∷ vs) u rise.1 is from until,
 )
   where
@@ -148,7 +148,8 @@ module _ {G : Type 0} (place : ℤ → ℕ) (s : ℕ) where
     pub one_changes : (ts : List ℤ) → PlacesRise place ts
         → AllByRecursion (λ p. lies_between place s p ≡ true → (f p ≡ None) × (h p ≡ a p)) (pairs ts)
         → filter_map h (pairs ts)
-        ≡ filter_map f (pairs ts) ++ option_to_list (option_and_then a (find (lies_between place s) (pairs ts)))
+        ≡ filter_map f (pairs ts) ++ option_to_list (option_and_then a (find (lies_between place s)
+        (pairs ts)))
     one_changes [] rise here = refl
     one_changes (t ∷ []) rise here = refl
     one_changes (t ∷ u ∷ us) rise here =
@@ -159,7 +160,8 @@ module _ {G : Type 0} (place : ℤ → ℕ) (s : ℕ) where
               (option_to_list (option_and_then a (find (lies_between place s) (pairs (u ∷ us)))))
               (one_changes (u ∷ us) rise.1 here.1)
               ∙ sym (ap (λ b. cons_option (f (t, u)) (filter_map f (pairs (u ∷ us)))
-              ++ option_to_list (option_and_then a (cond b (Some (t, u)) (find (lies_between place s) (pairs (u ∷ us))))))
+              ++ option_to_list (option_and_then a (cond b (Some (t, u)) (find (lies_between place s)
+              (pairs (u ∷ us))))))
               (lies_after (place t) s (place u) over))
           | inl under ↦ elim (cases_lt s (place t)) [
             | inl before ↦
@@ -174,7 +176,8 @@ module _ {G : Type 0} (place : ℤ → ℕ) (s : ℕ) where
                 ∙ ap (cons_option (a (t, u))) (none_later h h_later u us rise.1 under)
                 ∙ one_option (a (t, u))
                 ∙ sym (ap (λ b. filter_map f (pairs (t ∷ u ∷ us))
-                ++ option_to_list (option_and_then a (cond b (Some (t, u)) (find (lies_between place s) (pairs (u ∷ us))))))
+                ++ option_to_list (option_and_then a (cond b (Some (t, u)) (find (lies_between place s)
+                (pairs (u ∷ us))))))
                 is
                 ∙ ap (λ o. cons_option o (filter_map f (pairs (u ∷ us))) ++ option_to_list (a (t, u))) none
                 ∙ ap (λ xs. xs ++ option_to_list (a (t, u))) (none_later f f_later u us rise.1 under))

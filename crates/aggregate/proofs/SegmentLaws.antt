@@ -1,5 +1,5 @@
 -- A tick's segment by recursion over the basic intervals, and of a list whose last segment is known.
-use Rattle.std.proofs.Common.{◌≡◌, ℕ, zero, suc, ◌+◌, ◌-◌, ◌<◌, ◌≤◌, Bool, true, false, cond, ◌&&◌, ◌||◌, nat_lt, nat_le, List, [], ◌∷◌, ◌++◌, length, take, drop, Option, Some, None, option_map, unwrap_or, refl, sym, ◌∙◌, ap, arith}
+use Rattle.std.proofs.Common.{◌≡◌, ℕ, zero, suc, ◌+◌, ◌-◌, ◌<◌, Bool, true, false, cond, ◌&&◌, ◌||◌, nat_lt, nat_le, List, [], ◌∷◌, ◌++◌, length, take, drop, Option, Some, None, option_map, unwrap_or, refl, sym, ◌∙◌, ap, arith}
 use Rattle.std.specs.List.{AllByRecursion}
 use Rattle.std.specs.Option.{option_or}
 use Rattle.std.proofs.lemmas.Bool.Decides.{nat_tests}
@@ -85,8 +85,10 @@ until_first : (bs : List Basic)
 unfolding first_between first_of
 until_first [] = refl
 until_first (b ∷ bs) =
-    ap (λ o. take (unwrap_or o (suc (length bs))) (b ∷ bs)) (first_cons (is_front_from (b ∷ bs) 0) (length bs))
-    ∙ ap (λ f. take (unwrap_or (cond f (Some 0) (option_map (λ k. suc k) (first_between (is_front_from bs 0) 0 (length bs)))) (suc (length bs))) (b ∷ bs))
+    ap (λ o. take (unwrap_or o (suc (length bs))) (b ∷ bs)) (first_cons (is_front_from (b ∷ bs) 0)
+    (length bs))
+    ∙ ap (λ f. take (unwrap_or (cond f (Some 0) (option_map (λ k. suc k) (first_between
+    (is_front_from bs 0) 0 (length bs)))) (suc (length bs))) (b ∷ bs))
     (front_at b)
     ∙ at b.front (first_between (is_front_from bs 0) 0 (length bs)) (until_first bs)
   where
@@ -100,11 +102,12 @@ until_first (b ∷ bs) =
 -- the segment of the first index
 at_first : (b : Basic) (bs : List Basic) → segment_at (b ∷ bs) 0 ≡ b ∷ until_front bs
 at_first b bs =
-    let e : segment_end (b ∷ bs) 0 ≡ suc (unwrap_or (first_between (is_front_from bs 0) 0 (length bs)) (length bs)) =
+    let e : segment_end (b ∷ bs) 0 ≡ suc (unwrap_or (first_between (is_front_from bs 0) 0 (length bs))
+    (length bs)) =
     ap (λ o. unwrap_or o (suc (length bs))) (later_between (is_front_from (b ∷ bs) 0) 0 (length bs))
     ∙ later_end (first_between (is_front_from bs 0) 0 (length bs)) (length bs) in
     let d : suc (unwrap_or (first_between (is_front_from bs 0) 0 (length bs)) (length bs)) - 0
-        ≡ suc (unwrap_or (first_between (is_front_from bs 0) 0 (length bs)) (length bs)) = omega arith in
+    ≡ suc (unwrap_or (first_between (is_front_from bs 0) 0 (length bs)) (length bs)) = omega arith in
     ap (λ m. take (m - 0) (b ∷ bs)) e ∙ ap (λ m. take m (b ∷ bs)) d ∙ ap (λ xs. b ∷ xs) (until_first bs)
 
 pub segment_is : (place : ℕ) (bs : List Basic) → segment_of bs place ≡ segment_from place bs
@@ -132,7 +135,8 @@ segment_is place (b ∷ bs) =
 abbrev pub AreWithin : List Basic → Type 0
 AreWithin bs = AllByRecursion (λ b. b.front ≡ false) bs
 
-until_kept : (bs rest : List Basic) (f : Basic) → f.front ≡ true → until_front (bs ++ f ∷ rest) ≡ until_front bs
+until_kept : (bs rest : List Basic) (f : Basic) → f.front ≡ true → until_front (bs ++ f ∷ rest)
+    ≡ until_front bs
 until_kept [] rest f begins = ap (λ c. cond c [] (f ∷ until_front rest)) begins
 until_kept (b ∷ bs) rest f begins = ap (λ xs. cond b.front [] (b ∷ xs)) (until_kept bs rest f begins)
 
@@ -151,11 +155,14 @@ pub segment_split : (place : ℕ) (before rest : List Basic) (f : Basic) → f.f
     → segment_from place (before ++ f ∷ rest)
     ≡ option_or (segment_from place before) (cond (nat_le place f.part.start) (Some (f ∷ rest)) None)
 segment_split place [] rest f begins within =
-    ap (λ c. cond (c && nat_le place f.part.start) (Some (f ∷ until_front rest)) (segment_from place rest)) begins
-    ∙ ap (λ xs. cond (nat_le place f.part.start) (Some (f ∷ xs)) (segment_from place rest)) (until_end rest within)
+    ap (λ c. cond (c && nat_le place f.part.start) (Some (f ∷ until_front rest))
+    (segment_from place rest)) begins
+    ∙ ap (λ xs. cond (nat_le place f.part.start) (Some (f ∷ xs)) (segment_from place rest))
+    (until_end rest within)
     ∙ ap (λ o. cond (nat_le place f.part.start) (Some (f ∷ rest)) o) (none_within place rest within)
 segment_split place (b ∷ bs) rest f begins within =
-    ap (λ xs. cond (b.front && nat_le place b.part.start) (Some (b ∷ xs)) (segment_from place (bs ++ f ∷ rest)))
+    ap (λ xs. cond (b.front && nat_le place b.part.start) (Some (b ∷ xs)) (segment_from place
+    (bs ++ f ∷ rest)))
     (until_kept bs rest f begins)
     ∙ ap (λ o. cond (b.front && nat_le place b.part.start) (Some (b ∷ until_front bs)) o)
     (segment_split place bs rest f begins within)
@@ -190,7 +197,8 @@ none_from place (b ∷ bs) h =
 abbrev pub reaches_it : ℕ → Part → Bool
 reaches_it place p = nat_lt p.start place && nat_le place p.end
 
-pub reached_last : (place : ℕ) (ps : List Part) (p : Part) → AllByRecursion (λ q. reaches_it place q ≡ false) ps
+pub reached_last : (place : ℕ) (ps : List Part) (p : Part) → AllByRecursion (λ q. reaches_it place q
+    ≡ false) ps
     → reaches (ps ++ p ∷ []) place ≡ reaches_it place p
 reached_last place [] p h = or_false (reaches_it place p)
   where

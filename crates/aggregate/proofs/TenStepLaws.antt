@@ -1,6 +1,5 @@
 -- One more basic interval: the 10-minute interval that it completes, if it does.
-use Rattle.std.proofs.Common.{◌≡◌, ℕ, ◌+◌, ◌<◌, ◌≤◌, Bool, true, false, cond, ◌&&◌, nat_lt, nat_le, List, [], ◌∷◌, ◌++◌, map, find, ℤ, Option, Some, None, option_map, option_and_then, option_to_list, refl, sym, ◌∙◌, ap, subst, arith}
-use Rattle.std.specs.Bool.{⊤}
+use Rattle.std.proofs.Common.{◌≡◌, ℕ, ◌<◌, ◌≤◌, Bool, true, false, cond, ◌&&◌, nat_lt, nat_le, List, [], ◌∷◌, ◌++◌, find, ℤ, Option, Some, None, option_map, option_and_then, option_to_list, refl, sym, ◌∙◌, ap, arith}
 use Rattle.std.specs.List.{AllByRecursion}
 use Rattle.std.specs.Option.{option_or}
 use Rattle.std.proofs.lemmas.Bool.{both_ways}
@@ -9,7 +8,6 @@ use Rattle.std.proofs.lemmas.List.{map-append}
 use Rattle.pq_time.specs.declared.clock.Clock.{Clock}
 use Rattle.pq_time.specs.Tick.{tick_place, ticks}
 use Rattle.aggregate.specs.declared.group.Group.{Group}
-use Rattle.aggregate.specs.declared.ten.TenMinutes.{TenMinutes}
 use Rattle.aggregate.specs.Aggregation.{Part, Basic, group_of, parts_of, reaches, ten_group, ten_groups, tick_pairs}
 use Rattle.aggregate.specs.BasicOrder.{Follows, HasTickBetween}
 use Rattle.aggregate.specs.TenSum.{completed, lies_between, minutes_at}
@@ -66,17 +64,20 @@ module _ (clock : Clock) (n channels : ℕ) where
         ∙ same (segment_from (tick_place clock n p.0) before) (nat_le (tick_place clock n p.0) f.part.start)
         (ap (λ b. cond b (Some (group_of (Some p.0) channels (parts_of (f ∷ rest)))) None)
         (not_reached (tick_place clock n p.1) (parts_of (f ∷ rest))
-        (begun_late (tick_place clock n p.1) (parts_of (f ∷ rest)) low (starts_from f rest (omega arith) follow))))
+        (begun_late (tick_place clock n p.1) (parts_of (f ∷ rest)) low (starts_from f rest
+        (omega arith) follow))))
       where
         same : (o : Option (List Basic)) (b : Bool) → over p (f ∷ rest) ≡ None
-            → option_and_then (over p) (option_or o (cond b (Some (f ∷ rest)) None)) ≡ option_and_then (over p) o
+            → option_and_then (over p) (option_or o (cond b (Some (f ∷ rest)) None))
+            ≡ option_and_then (over p) o
         same (Some segment) b none = refl
         same None true none = none
         same None false none = refl
 
     -- the tick lies after its start
     ten_later : (p : ℤ × ℤ) → AllByRecursion (λ b. b.part.start ≤ f.part.start) before
-        → f.part.start < tick_place clock n p.0 → ten_group clock n channels (before ++ f ∷ rest) p.0 p.1 ≡ None
+        → f.part.start < tick_place clock n p.0 → ten_group clock n channels (before ++ f ∷ rest) p.0 p.1
+        ≡ None
     ten_later p starts later =
         ten_split p
         ∙ ap (λ o. option_and_then (over p) (option_or o
@@ -152,7 +153,11 @@ module _ (clock : Clock) (n channels : ℕ) where
   starts_before : (s m : ℕ) (bs : List Basic) → m < s → AllByRecursion (λ b. b.part.start ≤ m) bs
       → AllByRecursion (λ b. b.part.start < s) bs
   starts_before s m [] less h = tt
-  starts_before s m (b ∷ bs) less h = let step = h.0 in (omega (arith, step, less), starts_before s m bs less h.1)
+  starts_before s m (b ∷ bs) less h = let step = h.0 in (
+    omega
+        (arith, step, less),
+    starts_before s m bs less h.1,
+  )
 
   begun_before : (before rest : List Basic) (f : Basic) → AreLinked clock n (before ++ f ∷ rest)
       → AllByRecursion (λ b. b.part.start ≤ f.part.start) before
@@ -169,7 +174,8 @@ module _ (clock : Clock) (n channels : ℕ) where
       → segment_from (tick_place clock n p.0) before ≡ None) (pairs (ticks clock n 600))
   none_before [] rest f h begins = each (pairs (ticks clock n 600))
     where
-      each : (ps : List (ℤ × ℤ)) → AllByRecursion (λ p. lies_between (tick_place clock n) f.part.start p ≡ true
+      each : (ps : List (ℤ × ℤ)) → AllByRecursion (λ p. lies_between (tick_place clock n) f.part.start p
+          ≡ true
           → segment_from (tick_place clock n p.0) [] ≡ None) ps
       each [] = tt
       each (p ∷ ps) = ((λ _. refl), each ps)
@@ -188,7 +194,7 @@ module _ (clock : Clock) (n channels : ℕ) where
       each m starts [] g = tt
       each m starts (p ∷ ps) g = (
         (λ is. none_from (tick_place clock n p.0) (x ∷ xs)
-        (starts_before (tick_place clock n p.0) m (x ∷ xs) (g.0 is) starts)),
+            (starts_before (tick_place clock n p.0) m (x ∷ xs) (g.0 is) starts)),
         each m starts ps g.1,
       )
 
@@ -197,7 +203,8 @@ module _ (clock : Clock) (n channels : ℕ) where
   -- what it completes, by the ticks between which its segment begins
   abbrev pub completes_at : Basic → List Basic → ℤ × ℤ → Option Group
   completes_at b segment p =
-      cond (reaches_it (tick_place clock n p.1) b.part) (Some (group_of (Some p.0) channels (parts_of segment)))
+      cond (reaches_it (tick_place clock n p.1) b.part) (Some (group_of (Some p.0) channels
+      (parts_of segment)))
       None
 
   same_pairs : (f g : ℤ × ℤ → Option Group) → ((p : ℤ × ℤ) → f p ≡ g p) → (o : Option (ℤ × ℤ))
@@ -206,7 +213,8 @@ module _ (clock : Clock) (n channels : ℕ) where
   same_pairs f g h (Some p) = h p
 
   by_minutes : (b : Basic) (segment : List Basic) (place : ℕ)
-      → option_and_then (completes_at b segment) (find (lies_between (tick_place clock n) place) (tick_pairs clock n 600))
+      → option_and_then (completes_at b segment) (find (lies_between (tick_place clock n) place)
+      (tick_pairs clock n 600))
       ≡ option_and_then (completed channels b segment) (minutes_at clock n place)
   unfolding minutes_at
   by_minutes b segment place = at (find (lies_between (tick_place clock n) place) (tick_pairs clock n 600))
@@ -235,7 +243,8 @@ module _ (clock : Clock) (n channels : ℕ) where
       (each (pairs (ticks clock n 600)) (none_before before [] f h begins))
       ∙ ap (λ o. ten_groups clock n channels before ++ option_to_list o) (by_minutes f (f ∷ []) s)
     where
-      each : (ps : List (ℤ × ℤ)) → AllByRecursion (λ p. lies_between (tick_place clock n) f.part.start p ≡ true
+      each : (ps : List (ℤ × ℤ)) → AllByRecursion (λ p. lies_between (tick_place clock n) f.part.start p
+          ≡ true
           → segment_from (tick_place clock n p.0) before ≡ None) ps
           → AllByRecursion (λ p. lies_between (tick_place clock n) f.part.start p ≡ true
           → (ten_group clock n channels before p.0 p.1 ≡ None)
@@ -243,12 +252,12 @@ module _ (clock : Clock) (n channels : ℕ) where
       each [] g = tt
       each (p ∷ ps) g = (
         (λ is.
-        let none = g.0 is in (
-          segment_none before [] f begins tt tt p none,
-          ten_here before [] f begins tt tt p none (between (tick_place clock n) f.part.start p is).0
-              ∙ ap (λ c. cond c (Some (group_of (Some p.0) channels (parts_of (f ∷ [])))) None)
-              (reached_last (tick_place clock n p.1) [] f.part tt),
-        )),
+            let none = g.0 is in (
+              segment_none before [] f begins tt tt p none,
+              ten_here before [] f begins tt tt p none (between (tick_place clock n) f.part.start p is).0
+                  ∙ ap (λ c. cond c (Some (group_of (Some p.0) channels (parts_of (f ∷ [])))) None)
+                  (reached_last (tick_place clock n p.1) [] f.part tt),
+            )),
         each ps g.1,
       )
 
@@ -309,7 +318,8 @@ module _ (clock : Clock) (n channels : ℕ) where
       (ticks clock n 600) (ticks_rise clock n 600)
       (each follow follow_rest (pairs (ticks clock n 600)) (none_before before segment f h begins)
       (seconds_among (ticks clock n 600)))
-      ∙ ap (λ o. ten_groups clock n channels (before ++ f ∷ rest) ++ option_to_list o) (by_minutes b (f ∷ segment) s)
+      ∙ ap (λ o. ten_groups clock n channels (before ++ f ∷ rest) ++ option_to_list o) (by_minutes b
+      (f ∷ segment) s)
     where
       each : FollowFrom clock n f (rest ++ b ∷ []) → FollowFrom clock n f rest → (ps : List (ℤ × ℤ))
           → AllByRecursion (λ p. lies_between (tick_place clock n) f.part.start p ≡ true
@@ -322,12 +332,12 @@ module _ (clock : Clock) (n channels : ℕ) where
       each follow follow_rest [] g i = tt
       each follow follow_rest (p ∷ ps) g i = (
         (λ is.
-        let none = g.0 is in
-        let from = (between (tick_place clock n) f.part.start p is).0 in
-        let last = over_last f rest b follow within goes_on p i.0 in (
-          ten_here before rest f begins within follow_rest p none from ∙ last.0,
-          ten_here before (rest ++ b ∷ []) f begins (within_push rest b within goes_on) follow p none from
-              ∙ last.1,
-        )),
+            let none = g.0 is in
+            let from = (between (tick_place clock n) f.part.start p is).0 in
+            let last = over_last f rest b follow within goes_on p i.0 in (
+              ten_here before rest f begins within follow_rest p none from ∙ last.0,
+              ten_here before (rest ++ b ∷ []) f begins (within_push rest b within goes_on) follow p none from
+                  ∙ last.1,
+            )),
         each follow follow_rest ps g.1 i.1,
       )

@@ -1,6 +1,5 @@
 -- What the machine for 10-minute intervals keeps agrees with what it was fed, and goes on to.
-use Rattle.std.proofs.Common.{◌≡◌, ◌⊎◌, ℕ, zero, suc, ◌+◌, ◌<◌, ◌≤◌, true, false, cond, ◌&&◌, nat_lt, nat_le, List, [], ◌∷◌, ◌++◌, length, map, Option, Some, None, option_and_then, option_to_list, slice_get, All, append_assoc, refl, sym, ◌∙◌, ap, subst, inl, inr, arith}
-use Rattle.std.specs.Bool.{⊤}
+use Rattle.std.proofs.Common.{◌≡◌, ◌⊎◌, ℕ, suc, ◌+◌, ◌<◌, true, false, cond, ◌&&◌, nat_lt, nat_le, List, [], ◌∷◌, ◌++◌, length, Option, Some, None, option_and_then, option_to_list, append_assoc, refl, sym, ◌∙◌, ap, subst, inl, inr, arith}
 use Rattle.std.specs.List.{AllByRecursion}
 use Rattle.std.proofs.lemmas.Bool.{cases_Bool}
 use Rattle.std.proofs.lemmas.List.{length-append, length-map, map-append}
@@ -13,7 +12,6 @@ use Rattle.aggregate.specs.BasicOrder.{AreBasics, IsBasic, BeginsAtFront}
 use Rattle.aggregate.specs.Sum.{Adds, SumView, HasSummed}
 use Rattle.aggregate.specs.TenSum.{TenView, HasBegun, HasSeen, KeepsSetting, MayFollow, IsFed, IsInSegment, Completes, SeesMore, completed, minutes_at}
 use Rattle.aggregate.proofs.FollowLaws.{AreLinked, FollowFrom, follow_after, linked}
-use Rattle.aggregate.proofs.SegmentLaws.{AreWithin}
 use Rattle.aggregate.proofs.TenStepLaws.{first_completes, next_completes}
 
 -- ---- a basic interval that begins a segment
@@ -22,22 +20,28 @@ pub front_completes : (t : TenView) (b : Basic) (answer : Option Group) → b.fr
     → answer ≡ option_and_then (completed t.channels b (b ∷ [])) (minutes_at t.clock t.samples b.part.start)
     → Completes t b answer
 front_completes t b answer begins is fed seen basics =
-    first_completes t.clock t.samples t.channels fed b (linked t.clock t.samples (fed ++ b ∷ []) basics.follow) begins
+    first_completes t.clock t.samples t.channels fed b (linked t.clock t.samples
+    (fed ++ b ∷ []) basics.follow) begins
     ∙ ap (λ o. ten_groups t.clock t.samples t.channels fed ++ option_to_list o) (sym is)
 
 pub front_sees : (old new : TenView) (b : Basic) → b.front ≡ true → new.clock ≡ old.clock
     → new.samples ≡ old.samples → HasSummed new.sum (b.part ∷ [])
     → new.minutes ≡ minutes_at old.clock old.samples b.part.start → SeesMore old new b
 front_sees old new b begins clock samples summed minutes fed seen basics =
-    inr (fed, b, [], record {
-      parts = refl;
-      begins = begins;
-      goes_on = All-from_recursion (λ b. b.front ≡ false) [] tt;
-      summed = summed;
-      minutes =
-          minutes ∙ ap (λ c. minutes_at c old.samples b.part.start) (sym clock)
-              ∙ ap (λ n. minutes_at new.clock n b.part.start) (sym samples);
-    })
+    inr (
+      fed,
+      b,
+      [],
+      record {
+        parts = refl;
+        begins = begins;
+        goes_on = All-from_recursion (λ b. b.front ≡ false) [] tt;
+        summed = summed;
+        minutes =
+            minutes ∙ ap (λ c. minutes_at c old.samples b.part.start) (sym clock)
+            ∙ ap (λ n. minutes_at new.clock n b.part.start) (sym samples);
+      },
+    )
 
 -- ---- one that goes on with it
 
@@ -54,10 +58,12 @@ pushed : (fed before : List Basic) (f : Basic) (rest : List Basic) (b : Basic) �
 pushed fed before f rest b is = ap (λ bs. bs ++ b ∷ []) is ∙ append_assoc before (f ∷ rest) (b ∷ [])
 
 pub next_completes_one : (t : TenView) (b : Basic) (answer : Option Group) → b.front ≡ false
-    → ((before : List Basic) (f : Basic) (rest : List Basic) (fed : List Basic) → IsInSegment t fed before f rest
+    → ((before : List Basic) (f : Basic) (rest : List Basic) (fed : List Basic)
+    → IsInSegment t fed before f rest
     → answer ≡ option_and_then (completed t.channels b (f ∷ (rest ++ b ∷ []))) t.minutes)
     → Completes t b answer
-next_completes_one t b answer goes_on is fed (inl none) basics = absurd (not_first b fed goes_on none basics.first)
+next_completes_one t b answer goes_on is fed (inl none) basics = absurd
+    (not_first b fed goes_on none basics.first)
 next_completes_one t b answer goes_on is fed (inr seen) basics =
     let before = seen.0 in
     let f = seen.1 in
@@ -77,7 +83,8 @@ next_completes_one t b answer goes_on is fed (inr seen) basics =
 
 pub next_sees : (old new : TenView) (b : Basic) → b.front ≡ false → new.clock ≡ old.clock
     → new.samples ≡ old.samples → new.minutes ≡ old.minutes
-    → ((before : List Basic) (f : Basic) (rest : List Basic) (fed : List Basic) → IsInSegment old fed before f rest
+    → ((before : List Basic) (f : Basic) (rest : List Basic) (fed : List Basic)
+    → IsInSegment old fed before f rest
     → HasSummed new.sum (parts_of (f ∷ (rest ++ b ∷ []))))
     → SeesMore old new b
 next_sees old new b goes_on clock samples minutes summed fed (inl none) basics =
@@ -87,15 +94,20 @@ next_sees old new b goes_on clock samples minutes summed fed (inr seen) basics =
     let f = seen.1 in
     let rest = seen.2 in
     let s = seen.3 in
-    inr (before, f, rest ++ b ∷ [], record {
-      parts = pushed fed before f rest b s.parts;
-      begins = s.begins;
-      goes_on = All-push (λ b. b.front ≡ false) rest b s.goes_on goes_on;
-      summed = summed before f rest fed s;
-      minutes =
-          minutes ∙ s.minutes ∙ ap (λ c. minutes_at c old.samples f.part.start) (sym clock)
-              ∙ ap (λ n. minutes_at new.clock n f.part.start) (sym samples);
-    })
+    inr (
+      before,
+      f,
+      rest ++ b ∷ [],
+      record {
+        parts = pushed fed before f rest b s.parts;
+        begins = s.begins;
+        goes_on = All-push (λ b. b.front ≡ false) rest b s.goes_on goes_on;
+        summed = summed before f rest fed s;
+        minutes =
+            minutes ∙ s.minutes ∙ ap (λ c. minutes_at c old.samples f.part.start) (sym clock)
+            ∙ ap (λ n. minutes_at new.clock n f.part.start) (sym samples);
+      },
+    )
 
 -- ---- a step: the machine begins a segment or goes on with one, and adds the basic interval to its sum
 
@@ -103,7 +115,8 @@ next_sees old new b goes_on clock samples minutes summed fed (inr seen) basics =
 summed_push : (old new : SumView) (f : Basic) (rest : List Basic) (b : Basic) → Adds old new b.part
     → HasSummed old (parts_of (f ∷ rest)) → HasSummed new (parts_of (f ∷ (rest ++ b ∷ [])))
 summed_push old new f rest b adds summed =
-    subst (HasSummed new) (sym (map-append (λ b. b.part) (f ∷ rest) (b ∷ []))) (adds (parts_of (f ∷ rest)) summed)
+    subst (HasSummed new) (sym (map-append (λ b. b.part) (f ∷ rest) (b ∷ []))) (adds (parts_of
+    (f ∷ rest)) summed)
 
 module _ (old mid : TenView) (sum : SumView) (b : Basic) (setting : KeepsSetting old mid)
     (begun : b.front ≡ true → HasBegun mid b.part.start) (stays : b.front ≡ false → mid ≡ old)
@@ -120,12 +133,14 @@ module _ (old mid : TenView) (sum : SumView) (b : Basic) (setting : KeepsSetting
     where
       at : (b.front ≡ true) ⊎ (b.front ≡ false) → Completes old b answer
       at (inl is) = front_completes old b answer is
-          (told (b ∷ []) (adds [] (begun is).summed) ∙ ap (option_and_then (completed old.channels b (b ∷ []))) (begun_minutes is))
+          (told (b ∷ []) (adds [] (begun is).summed) ∙ ap (option_and_then (completed old.channels b
+          (b ∷ []))) (begun_minutes is))
       at (inr is) = next_completes_one old b answer is (λ before f rest fed s.
           told (f ∷ (rest ++ b ∷ []))
           (summed_push mid.sum sum f rest b adds
           (subst (λ (v : TenView). HasSummed v.sum (parts_of (f ∷ rest))) (sym (stays is)) s.summed))
-          ∙ ap (λ (v : TenView). option_and_then (completed old.channels b (f ∷ (rest ++ b ∷ []))) v.minutes) (stays is))
+          ∙ ap (λ (v : TenView). option_and_then (completed old.channels b (f ∷
+          (rest ++ b ∷ []))) v.minutes) (stays is))
 
   pub step_sees : (new : TenView) → KeepsSetting old new → new.sum ≡ sum → new.minutes ≡ mid.minutes
       → SeesMore old new b
@@ -167,7 +182,8 @@ all_after P (x ∷ xs) ys h = all_after P xs ys h.1
 pub last_basic : (clock : Clock) (n channels : ℕ) (fed : List Basic) (b : Basic)
     → AreBasics clock n channels (fed ++ b ∷ []) → IsBasic n channels b
 last_basic clock n channels fed b basics =
-    (all_after (IsBasic n channels) fed (b ∷ []) (recursion_from_All (IsBasic n channels) (fed ++ b ∷ []) basics.each)).0
+    (all_after (IsBasic n channels) fed (b ∷ []) (recursion_from_All (IsBasic n channels)
+    (fed ++ b ∷ []) basics.each)).0
 
 -- a segment that one more may follow has fewer basic intervals than there are samples
 pub room_in : (t : TenView) (b : Basic) → b.front ≡ false → MayFollow t b → t.sum.count < t.samples
@@ -184,7 +200,8 @@ room_in t b goes_on may = at may.0 may.1 may.2
         let follow = follow_after t.clock t.samples before f (rest ++ b ∷ [])
         (subst (λ bs. AreLinked t.clock t.samples bs) whole
         (linked t.clock t.samples (fed ++ b ∷ []) basics.follow)) in
-        let each = starts_in t.samples t.channels (f ∷ (rest ++ b ∷ [])) (all_after (IsBasic t.samples t.channels)
+        let each = starts_in t.samples t.channels (f ∷ (rest ++ b ∷ [])) (all_after
+        (IsBasic t.samples t.channels)
         before (f ∷ (rest ++ b ∷ [])) (subst (λ bs. AllByRecursion (IsBasic t.samples t.channels) bs) whole
         (recursion_from_All (IsBasic t.samples t.channels) (fed ++ b ∷ []) basics.each))) in
         let less = begun_in t.clock t.samples f (rest ++ b ∷ []) follow each in
@@ -195,7 +212,8 @@ room_in t b goes_on may = at may.0 may.1 may.2
 
 -- ---- what it answers
 
-pub told_none : (channels : ℕ) (b : Basic) (segment : List Basic) (o : Option TenMinutes) (answer : Option Group)
+pub told_none : (channels : ℕ) (b : Basic) (segment : List Basic) (o : Option TenMinutes)
+    (answer : Option Group)
     → o ≡ None → answer ≡ None → answer ≡ option_and_then (completed channels b segment) o
 told_none channels b segment o answer none is = is
     ∙ sym (ap (option_and_then (completed channels b segment)) none)

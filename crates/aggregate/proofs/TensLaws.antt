@@ -1,5 +1,5 @@
 -- The 10-minute intervals come in the order of their ticks, and no value is greater than a sample may be.
-use Rattle.std.proofs.Common.{◌≡◌, ◌⊎◌, ℕ, zero, suc, ◌+◌, ◌-◌, ◌*◌, ◌/◌, ◌^◌, ◌<◌, ◌≤◌, Bool, true, false, cond, nat_lt, List, [], ◌∷◌, length, map, drop, take, zip, filter_map, sum_by, ℤ, pos, ◌+ℤ◌, ◌<ℤ◌, Option, Some, None, option_map, option_and_then, IfSome, All, slice_get, slice_index, get_or, refl, sym, ◌∙◌, ap, subst, inl, inr, arith}
+use Rattle.std.proofs.Common.{◌≡◌, ℕ, zero, suc, ◌+◌, ◌-◌, ◌*◌, ◌/◌, ◌^◌, ◌≤◌, Bool, true, false, cond, nat_lt, List, [], ◌∷◌, length, map, drop, zip, filter_map, sum_by, ℤ, pos, ◌+ℤ◌, ◌<ℤ◌, Option, Some, None, option_map, option_and_then, IfSome, All, slice_get, slice_index, get_or, refl, sym, ◌∙◌, ap, subst, inl, inr, arith}
 use Rattle.std.specs.List.{AllByRecursion, cons_option}
 use Rattle.std.proofs.Math.Nat.{div-le_of_le-mul}
 use Rattle.std.proofs.lemmas.Bool.{cases_lt}
@@ -21,7 +21,7 @@ use Rattle.pq_time.specs.Tick.{IsTick, tick_place, ticks}
 use Rattle.pq_time.proofs.TickLaws.{ticks_exact}
 use Rattle.pq_words.specs.declared.limits.TheConstants.{MOST_MICROVOLTS}
 use Rattle.pq_words.specs.First.{first_between}
-use Rattle.pq_words.specs.Steps.{numbers_below, numbers_from, steps_from}
+use Rattle.pq_words.specs.Steps.{numbers_below, steps_from}
 use Rattle.pq_words.proofs.StepLaws.{length_numbers}
 
 -- ---- no value is too great
@@ -115,9 +115,11 @@ each_of P Q f (x ∷ xs) h = (f x h.0, each_of P Q f xs h.1)
 firsts_among : (ts us : List ℤ) → AllByRecursion (λ p. IsAmong p.0 ts) (zip ts us)
 firsts_among [] us = tt
 firsts_among (t ∷ ts) [] = tt
-firsts_among (t ∷ ts) (u ∷ us) =
-    (inl refl, each_of (λ p. IsAmong p.0 ts) (λ p. IsAmong p.0 (t ∷ ts)) (λ p h. inr h) (zip ts us)
-    (firsts_among ts us))
+firsts_among (t ∷ ts) (u ∷ us) = (
+  inl refl,
+  each_of (λ p. IsAmong p.0 ts) (λ p. IsAmong p.0 (t ∷ ts)) (λ p h. inr h) (zip ts us)
+      (firsts_among ts us),
+)
 
 -- ---- and their ticks rise
 

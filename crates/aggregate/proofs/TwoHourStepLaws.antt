@@ -1,11 +1,9 @@
 -- One more 10-minute interval: the 2-hour interval that it completes, if it does, and what runs after it.
-use Rattle.std.proofs.Common.{◌≡◌, ◌⊎◌, ℕ, zero, suc, ◌+◌, ◌-◌, ◌*◌, ◌/◌, ◌%◌, ◌<◌, ◌≤◌, ◌==◌, Bool, true, false, cond, nat_lt, List, [], ◌∷◌, ◌++◌, length, map, find, filter_map, ℤ, pos, negsuc, ◌+ℤ◌, ◌-ℤ◌, ◌*ℤ◌, ◌≤ℤ◌, ◌<ℤ◌, Option, Some, None, IfSome, option_and_then, option_to_list, slice_get, All, refl, sym, ◌∙◌, ap, subst, inl, inr, arith}
-use Rattle.std.specs.Bool.{⊤}
+use Rattle.std.proofs.Common.{◌≡◌, ◌⊎◌, ℕ, zero, suc, ◌+◌, ◌-◌, ◌*◌, ◌/◌, ◌%◌, ◌<◌, ◌≤◌, ◌==◌, Bool, true, false, cond, List, [], ◌∷◌, ◌++◌, length, map, find, filter_map, ℤ, pos, negsuc, ◌+ℤ◌, ◌-ℤ◌, ◌*ℤ◌, ◌≤ℤ◌, ◌<ℤ◌, Option, Some, None, IfSome, option_to_list, All, refl, sym, ◌∙◌, ap, subst, inl, inr, arith}
 use Rattle.std.specs.Int.{int_rem_euclid}
 use Rattle.std.specs.List.{AllByRecursion, cons_option}
 use Rattle.std.specs.Option.{option_map_or, option_or}
 use Rattle.std.specs.Ordering.{int_eq}
-use Rattle.std.proofs.lemmas.Bool.{cases_lt}
 use Rattle.std.proofs.lemmas.Bool.Decides.{nat_tests, Decides-int_eq}
 use Rattle.std.proofs.lemmas.Int.{by_lt_z, ints}
 use Rattle.std.proofs.lemmas.List.{append-nil, length-append}
@@ -23,7 +21,8 @@ use Rattle.pq_words.specs.Steps.{steps_from}
 
 -- ---- steps of ten minutes
 
-steps_more : (low : ℤ) (k : ℕ) → steps_from low 600 (suc k) ≡ steps_from low 600 k ++ (low +ℤ pos (600 * k)) ∷ []
+steps_more : (low : ℤ) (k : ℕ) → steps_from low 600 (suc k) ≡ steps_from low 600 k ++ (low +ℤ pos
+    (600 * k)) ∷ []
 unfolding steps_from
 steps_more low zero = let e : low ≡ (low +ℤ pos (600 * 0)) = omega (arith, ints) in ap (λ t. t ∷ []) e
 steps_more low (suc k) =
@@ -106,14 +105,17 @@ module _ (tens : List Group) (g : Group) (v : ℤ) (ticked : g.tick ≡ Some v) 
   found_there : find (has_tick v) (tens ++ g ∷ []) ≡ Some g
   found_there =
       find-append (has_tick v) tens (g ∷ [])
-      ∙ ap (λ o. option_or o (cond (has_tick v g) (Some g) None)) (none_found v v tens below (omega (arith, ints)))
+      ∙ ap (λ o. option_or o (cond (has_tick v g) (Some g) None)) (none_found v v tens below (omega
+      (arith, ints)))
       ∙ ap (λ b. cond b (Some g) None) (has_same v g ticked)
 
   found_after : (u : ℤ) → v <ℤ u → find (has_tick u) (tens ++ g ∷ []) ≡ None
   found_after u more =
       find-append (has_tick u) tens (g ∷ [])
-      ∙ ap (λ o. option_or o (cond (has_tick u g) (Some g) None)) (none_found v u tens below (omega (arith, ints, more)))
-      ∙ ap (λ b. cond b (Some g) None) (has_other u v g ticked (λ same. absurd (omega (arith, ints, same, more))))
+      ∙ ap (λ o. option_or o (cond (has_tick u g) (Some g) None)) (none_found v u tens below (omega
+      (arith, ints, more)))
+      ∙ ap (λ b. cond b (Some g) None) (has_other u v g ticked (λ same. absurd (omega
+      (arith, ints, same, more))))
 
   -- up to it, nothing changes
   pub from_before : (low : ℤ) (k : ℕ) → (low +ℤ pos (600 * k)) ≤ℤ v
@@ -146,7 +148,8 @@ module _ (tens : List Group) (g : Group) (v : ℤ) (ticked : g.tick ≡ Some v) 
       → tens_from (tens ++ g ∷ []) low (suc k) ≡ tens_from tens low k ++ g ∷ []
   from_upto low k is =
       ap (filter_map (λ t. find (has_tick t) (tens ++ g ∷ []))) (steps_more low k)
-      ∙ filter_map-append (λ t. find (has_tick t) (tens ++ g ∷ [])) (steps_from low 600 k) ((low +ℤ pos (600 * k)) ∷ [])
+      ∙ filter_map-append (λ t. find (has_tick t) (tens ++ g ∷ [])) (steps_from low 600 k) ((low +ℤ pos
+      (600 * k)) ∷ [])
       ∙ ap (λ o. tens_from (tens ++ g ∷ []) low k ++ cons_option o [])
       (ap (λ t. find (has_tick t) (tens ++ g ∷ [])) is ∙ found_there)
       ∙ ap (λ gs. gs ++ g ∷ []) (from_before low k (omega (arith, ints, is)))
@@ -183,18 +186,21 @@ from_most tens low (suc k) = at (find (has_tick low) tens) (from_most tens (low 
 
 -- where all are there, so is the last, and all before it
 pub last_found : (tens : List Group) (low : ℤ) (k : ℕ) → length (tens_from tens low (suc k)) ≡ suc k
-    → ((x : Group) × (find (has_tick (low +ℤ pos (600 * k))) tens ≡ Some x)) × (length (tens_from tens low k) ≡ k)
+    → ((x : Group) × (find (has_tick (low +ℤ pos (600 * k))) tens ≡ Some x))
+    × (length (tens_from tens low k) ≡ k)
 last_found tens low k e =
     let parts : tens_from tens low (suc k) ≡ tens_from tens low k
-        ++ cons_option (find (has_tick (low +ℤ pos (600 * k))) tens) [] =
+    ++ cons_option (find (has_tick (low +ℤ pos (600 * k))) tens) [] =
     ap (filter_map (λ t. find (has_tick t) tens)) (steps_more low k)
     ∙ filter_map-append (λ t. find (has_tick t) tens) (steps_from low 600 k) ((low +ℤ pos (600 * k)) ∷ []) in
     at (find (has_tick (low +ℤ pos (600 * k))) tens) refl
-    (sym (ap length parts ∙ length-append (tens_from tens low k) (cons_option (find (has_tick (low +ℤ pos (600 * k))) tens) [])) ∙ e)
+    (sym (ap length parts ∙ length-append (tens_from tens low k) (cons_option (find (has_tick (low +ℤ pos
+    (600 * k))) tens) [])) ∙ e)
     (from_most tens low k)
   where
     at : (o : Option Group) → find (has_tick (low +ℤ pos (600 * k))) tens ≡ o
-        → length (tens_from tens low k) + length (cons_option o []) ≡ suc k → length (tens_from tens low k) ≤ k
+        → length (tens_from tens low k) + length (cons_option o []) ≡ suc k
+        → length (tens_from tens low k) ≤ k
         → ((x : Group) × (find (has_tick (low +ℤ pos (600 * k))) tens ≡ Some x))
         × (length (tens_from tens low k) ≡ k)
     at None is many most = absurd (omega (arith, many, most))
@@ -204,7 +210,11 @@ last_found tens low k e =
 
 pub two_hours_of : (z : ℤ) → int_rem_euclid z (pos 7200) ≡ pos 0 → (j : ℤ) × (z ≡ (j *ℤ pos 7200))
 two_hours_of (pos a) e = let r : a % 7200 ≡ 0 = cc in (pos (a / 7200), omega (arith, ints, r))
-two_hours_of (negsuc a) e = let r : 7200 - 1 - a % 7200 ≡ 0 = cc in (negsuc (a / 7200), omega (arith, ints, r))
+two_hours_of (negsuc a) e = let r : 7200 - 1 - a % 7200 ≡ 0 = cc in (
+  negsuc (a / 7200),
+  omega
+      (arith, ints, r),
+)
 
 -- two of them less than two hours apart are one
 pub same_two_hours : (a b : ℤ) → int_rem_euclid a (pos 7200) ≡ pos 0 → int_rem_euclid b (pos 7200) ≡ pos 0
@@ -258,7 +268,8 @@ module _ (channels : ℕ) (tens : List Group) (g : Group) (v : ℤ) (ticked : g.
 
   two_before : (t : ℤ) → v <ℤ t → two_hour_group channels tens t ≡ None
   two_before t h =
-      two_is channels tens t ∙ ap (made channels t) (from_none tens g v ticked below t 12 (omega (arith, ints, h)))
+      two_is channels tens t ∙ ap (made channels t) (from_none tens g v ticked below t 12 (omega
+      (arith, ints, h)))
 
   two_after : (t : ℤ) → v <ℤ t → two_hour_group channels (tens ++ g ∷ []) t ≡ None
   two_after t h =
@@ -318,7 +329,8 @@ module _ (channels : ℕ) (tens : List Group) (g : Group) (v : ℤ) (ticked : g.
       → (two_hour_group channels tens t ≡ None) × (two_hour_group channels (tens ++ g ∷ []) t ≡ answer)
 
   none_more : (ts : List ℤ) → IsAnswer ts → answer ≡ None
-      → filter_map (two_hour_group channels (tens ++ g ∷ [])) ts ≡ filter_map (two_hour_group channels tens) ts
+      → filter_map (two_hour_group channels (tens ++ g ∷ [])) ts
+      ≡ filter_map (two_hour_group channels tens) ts
   none_more ts here none =
       same_found (two_hour_group channels tens) (two_hour_group channels (tens ++ g ∷ [])) ts (λ t is.
       by_lt_z v t (λ less. two_after channels tens g v ticked below t less
@@ -341,7 +353,8 @@ module _ (channels : ℕ) (tens : List Group) (g : Group) (v : ℤ) (ticked : g.
       let least = among_least (low +ℤ pos 7200) u m is in
       two_after channels tens g v ticked below u (omega (arith, ints, same, until, least))))
       ∙ just_one answer
-      ∙ sym (ap (λ o. cons_option o (filter_map (two_hour_group channels tens) rest) ++ option_to_list answer) now.0
+      ∙ sym (ap (λ o. cons_option o (filter_map
+      (two_hour_group channels tens) rest) ++ option_to_list answer) now.0
       ∙ ap (λ gs. gs ++ option_to_list answer) (none_of (two_hour_group channels tens) rest (λ u is.
       let least = among_least (low +ℤ pos 7200) u m is in
       two_before channels tens g v ticked below u (omega (arith, ints, same, until, least)))))
@@ -350,7 +363,8 @@ module _ (channels : ℕ) (tens : List Group) (g : Group) (v : ℤ) (ticked : g.
       let least = among_least (low +ℤ pos 7200) t m later in
       ap (λ o. cons_option o (filter_map (two_hour_group channels (tens ++ g ∷ [])) rest))
       (two_past channels tens g v ticked below low (omega (arith, ints, least, from)))
-      ∙ cons_then (two_hour_group channels tens low) (filter_map (two_hour_group channels (tens ++ g ∷ [])) rest)
+      ∙ cons_then (two_hour_group channels tens low) (filter_map (two_hour_group channels
+      (tens ++ g ∷ [])) rest)
       (filter_map (two_hour_group channels tens) rest) (option_to_list answer)
       (one_more t from until (low +ℤ pos 7200) m (λ u is. here u (inr is)) later)
 
@@ -362,7 +376,8 @@ module _ (channels : ℕ) (tens : List Group) (g : Group) (v : ℤ) (ticked : g.
   two_completes clock n here (inl none) =
       none_more (ticks clock n 7200) here none
       ∙ sym (append-nil (filter_map (two_hour_group channels tens) (ticks clock n 7200)))
-      ∙ ap (λ o. filter_map (two_hour_group channels tens) (ticks clock n 7200) ++ option_to_list o) (sym none)
+      ∙ ap (λ o. filter_map (two_hour_group channels tens) (ticks clock n 7200) ++ option_to_list o)
+      (sym none)
   two_completes clock n here (inr some) = one_more some.0 some.2 some.3 _ _ here some.1
 
 -- of none, none are there
@@ -407,7 +422,8 @@ module _ (tens : List Group) (g : Group) (v : ℤ) (ticked : g.tick ≡ Some v) 
       subst (λ o. IfSome o (λ s. s <ℤ (t +ℤ pos (600 * suc k)))) ticked
       (last_of (λ g. IfSome g.tick (λ s. s <ℤ (t +ℤ pos (600 * suc k)))) tens h.latest) in
       let early : (t +ℤ pos (600 * k)) ≤ℤ v = by_lt_z v (t +ℤ pos (600 * k))
-      (λ less. absurd (not_found last.0.0 (sym (found_after tens g v ticked below (t +ℤ pos (600 * k)) less) ∙ last.0.1)))
+      (λ less. absurd (not_found last.0.0 (sym (found_after tens g v ticked below (t +ℤ pos
+      (600 * k)) less) ∙ last.0.1)))
       (λ le. le) in
       let is : (t +ℤ pos (600 * k)) ≡ v = omega (arith, ints, is_t, is_v, late, early) in
       (k, refl, is, ap length (sym (from_before tens g v ticked below t k early)) ∙ last.1)
@@ -427,7 +443,7 @@ module _ (tens : List Group) (g : Group) (v : ℤ) (ticked : g.tick ≡ Some v) 
     few = omega (arith, few);
     all =
         ap length (from_upto tens g v ticked below t k is) ∙ length-append (tens_from tens t k) (g ∷ [])
-            ∙ omega (arith, all);
+        ∙ omega (arith, all);
     latest =
         All-push (λ g. IfSome g.tick (λ s. s <ℤ (t +ℤ pos (600 * suc k)))) tens g
         (All-from_recursion (λ g. IfSome g.tick (λ s. s <ℤ (t +ℤ pos (600 * suc k)))) tens
@@ -439,9 +455,11 @@ module _ (tens : List Group) (g : Group) (v : ℤ) (ticked : g.tick ≡ Some v) 
           → AllByRecursion (λ g. IfSome g.tick (λ s. s <ℤ (t +ℤ pos (600 * suc k)))) gs
       sooner [] h le = tt
       sooner (x ∷ xs) h le =
-          let less = h.0.2 in
-          (subst (λ o. IfSome o (λ s. s <ℤ (t +ℤ pos (600 * suc k)))) (sym h.0.1) (omega (arith, ints, less, le)),
-          sooner xs h.1 le)
+          let less = h.0.2 in (
+            subst (λ o. IfSome o (λ s. s <ℤ (t +ℤ pos (600 * suc k)))) (sym h.0.1) (omega
+                (arith, ints, less, le)),
+            sooner xs h.1 le,
+          )
 
 -- those that run at a list are there up to a second, if all in the list lie before that
 pub running_to : (tens : List Group) (t v : ℤ) (k : ℕ) → AreBelow v tens → int_rem_euclid t (pos 7200) ≡ pos 0
@@ -461,6 +479,8 @@ running_to tens t v k below whole few is all = record {
         → AllByRecursion (λ g. IfSome g.tick (λ s. s <ℤ (t +ℤ pos (600 * suc k)))) gs
     sooner [] h le = tt
     sooner (x ∷ xs) h le =
-        let less = h.0.2 in
-        (subst (λ o. IfSome o (λ s. s <ℤ (t +ℤ pos (600 * suc k)))) (sym h.0.1) (omega (arith, ints, less, le)),
-        sooner xs h.1 le)
+        let less = h.0.2 in (
+          subst (λ o. IfSome o (λ s. s <ℤ (t +ℤ pos (600 * suc k)))) (sym h.0.1) (omega
+              (arith, ints, less, le)),
+          sooner xs h.1 le,
+        )

@@ -1,5 +1,5 @@
 -- What the machine for 2-hour intervals keeps agrees with what it was fed, and goes on to.
-use Rattle.std.proofs.Common.{◌≡◌, ◌⊎◌, ℕ, zero, suc, ◌+◌, ◌*◌, ◌^◌, ◌<◌, ◌≤◌, ◌==◌, Bool, true, false, cond, List, [], ◌∷◌, ◌++◌, length, map, find, ℤ, pos, ◌+ℤ◌, ◌*ℤ◌, ◌≤ℤ◌, ◌<ℤ◌, Option, Some, None, IfSome, option_and_then, option_to_list, slice_get, All, refl, sym, ◌∙◌, ap, subst, inl, inr, arith}
+use Rattle.std.proofs.Common.{◌≡◌, ◌⊎◌, ℕ, zero, suc, ◌+◌, ◌*◌, ◌^◌, ◌≤◌, ◌==◌, Bool, true, false, cond, List, [], ◌∷◌, ◌++◌, length, map, ℤ, pos, ◌+ℤ◌, ◌≤ℤ◌, ◌<ℤ◌, Option, Some, None, IfSome, option_and_then, option_to_list, slice_get, refl, sym, ◌∙◌, ap, subst, inl, inr, arith}
 use Rattle.std.specs.Bool.{⊤}
 use Rattle.std.specs.Int.{int_rem_euclid}
 use Rattle.std.specs.List.{AllByRecursion}
@@ -19,7 +19,7 @@ use Rattle.aggregate.specs.declared.two_hour.TwoHours.{TwoHours}
 use Rattle.aggregate.specs.Aggregation.{as_part, group_of, has_tick, two_hour_group, two_hour_groups}
 use Rattle.aggregate.specs.BasicOrder.{IsSetting}
 use Rattle.aggregate.specs.Sum.{Adds, HasSummed, IsGroupOf, SumView}
-use Rattle.aggregate.specs.TwoHourSum.{AreRunning, AreTens, Completes, HasSeen, IsTen, KeepsSetting, MayFollow, NoneRun, RunsAfter, SeesMore, TwoHourView, begins_two_hours, next_hours, next_ten, tens_from}
+use Rattle.aggregate.specs.TwoHourSum.{AreRunning, AreTens, Completes, HasSeen, IsTen, MayFollow, NoneRun, RunsAfter, SeesMore, TwoHourView, begins_two_hours, next_hours, next_ten, tens_from}
 use Rattle.pq_words.specs.declared.limits.TheConstants.{MOST_SAMPLES}
 use Rattle.pq_words.specs.Magnitude.{IsWithin}
 use Rattle.aggregate.proofs.FollowLaws.{among_contains, contains_among}
@@ -42,8 +42,8 @@ rise_from a [] h = tt
 rise_from a (b ∷ bs) h = (
   (λ s t x y. h 0 a b s t refl refl x y),
   rise_from b bs (λ i x y s t at next u w.
-  let step : suc i + 1 ≡ suc (i + 1) = omega arith in
-  h (suc i) x y s t at (ap (slice_get (a ∷ b ∷ bs)) step ∙ next) u w),
+      let step : suc i + 1 ≡ suc (i + 1) = omega arith in
+      h (suc i) x y s t at (ap (slice_get (a ∷ b ∷ bs)) step ∙ next) u w),
 )
 
 -- all before the last lie below its tick
@@ -112,7 +112,12 @@ next_some hours v h e = at (begins_two_hours v) refl e
     on (Some x) is e = passed (int_eq (next_ten x) v) refl e
       where
         passed : (b : Bool) → int_eq (next_ten x) v ≡ b → cond b (Some x) None ≡ Some h → IsNext (Some x) v h
-        passed true same e = inr (is, e, ap next_ten (sym (same_Some x h e)) ∙ (Decides-int_eq (next_ten x) v).0 same)
+        passed true same e = inr (
+          is,
+          e,
+          ap next_ten (sym (same_Some x h e))
+              ∙ (Decides-int_eq (next_ten x) v).0 same,
+        )
         passed false same e = absurd (let bad : ⊥ = cc in bad)
 
     at : (b : Bool) → begins_two_hours v ≡ b
@@ -145,7 +150,8 @@ module _ (clock : Clock) (n channels : ℕ) (fed : List Group) (g : Group) (v : 
       at t zero r = let some = r.some in absurd (omega (arith, some))
       at t (suc k) r =
           let last = (last_found fed t k r.all).0 in
-          let found = found_is (λ g. (s : ℤ) × (g.tick ≡ Some s) × (s <ℤ v)) (has_tick (t +ℤ pos (600 * k))) fed
+          let found = found_is (λ g. (s : ℤ) × (g.tick ≡ Some s)
+          × (s <ℤ v)) (has_tick (t +ℤ pos (600 * k))) fed
           last.0 below last.1 in
           let tick = found.0 in
           let same = tick_of_found (t +ℤ pos (600 * k)) tick.0 last.0 tick.1 found.1 in
@@ -169,16 +175,19 @@ module _ (clock : Clock) (n channels : ℕ) (fed : List Group) (g : Group) (v : 
       latest_at : (h : TwoHours) → AreRunning fed h.tick h.count → (t +ℤ pos (600 * k)) <ℤ next_ten h
       latest_at h r =
           let last = (last_found fed t k all).0 in
-          let found = found_is (λ g. (s : ℤ) × (g.tick ≡ Some s) × (s <ℤ v)) (has_tick (t +ℤ pos (600 * k))) fed
+          let found = found_is (λ g. (s : ℤ) × (g.tick ≡ Some s)
+          × (s <ℤ v)) (has_tick (t +ℤ pos (600 * k))) fed
           last.0 below last.1 in
-          let late = found_is (λ g. IfSome g.tick (λ s. s <ℤ next_ten h)) (has_tick (t +ℤ pos (600 * k))) fed last.0
+          let late = found_is (λ g. IfSome g.tick (λ s. s <ℤ next_ten h)) (has_tick (t +ℤ pos
+          (600 * k))) fed last.0
           (recursion_from_All (λ g. IfSome g.tick (λ s. s <ℤ next_ten h)) fed r.latest) last.1 in
           let tick = found.0 in
           let same = tick_of_found (t +ℤ pos (600 * k)) tick.0 last.0 tick.1 found.1 in
           let less : tick.0 <ℤ next_ten h = subst (λ o. IfSome o (λ s. s <ℤ next_ten h)) tick.1 late.0 in
           omega (arith, ints, same, less)
 
-      at : (hours : Option TwoHours) → RunsAfter fed sum hours → ((h : TwoHours) → hours ≡ Some h → next_ten h ≡ v → ⊥)
+      at : (hours : Option TwoHours) → RunsAfter fed sum hours → ((h : TwoHours) → hours ≡ Some h
+          → next_ten h ≡ v → ⊥)
           → ⊥
       at None runs other = runs t (suc k) (running_to fed t v k below whole few is all)
       at (Some h) runs other =
@@ -214,7 +223,8 @@ module _ (clock : Clock) (n channels : ℕ) (fed : List Group) (g : Group) (v : 
   its_hours h on t whole from until =
       let few = on.1 in
       let is = on.2 in
-      same_two_hours t h.tick whole on.0 (omega (arith, ints, few, is, from)) (omega (arith, ints, few, is, until))
+      same_two_hours t h.tick whole on.0 (omega (arith, ints, few, is, from)) (omega
+      (arith, ints, few, is, until))
 
   -- ---- nothing goes on
 
@@ -231,12 +241,14 @@ module _ (clock : Clock) (n channels : ℕ) (fed : List Group) (g : Group) (v : 
       two_completes channels fed g v ticked below divisible None clock n (λ t is from until.
       let whole = whole_tick t is in
       let k = tens_between t v whole divisible from until in
-      let here = two_here channels fed g v ticked below t k.0 k.1 k.2 in
-      (here.0, here.1 ∙ not_made t (tens_from fed t k.0 ++ g ∷ []) (λ twelve.
-      let most = from_most fed t k.0 in
-      let more = length-append (tens_from fed t k.0) (g ∷ []) in
-      let few = k.1 in
-      no_run none t k.0 whole few k.2 (omega (arith, twelve, most, more, few)))))
+      let here = two_here channels fed g v ticked below t k.0 k.1 k.2 in (
+        here.0,
+        here.1 ∙ not_made t (tens_from fed t k.0 ++ g ∷ []) (λ twelve.
+            let most = from_most fed t k.0 in
+            let more = length-append (tens_from fed t k.0) (g ∷ []) in
+            let few = k.1 in
+            no_run none t k.0 whole few k.2 (omega (arith, twelve, most, more, few))),
+      ))
       (inl refl)
 
   none_runs : next_hours hours v ≡ None → NoneRun (fed ++ g ∷ [])
@@ -308,7 +320,8 @@ module _ (clock : Clock) (n channels : ℕ) (fed : List Group) (g : Group) (v : 
         let count = ran.1 in
         let is = ran.2 in
         let last = on.2 in
-        let same = its_hours h on t running.whole (omega (arith, ints, is)) (omega (arith, ints, is, few, count)) in
+        let same = its_hours h on t running.whole (omega (arith, ints, is)) (omega
+        (arith, ints, is, few, count)) in
         omega (arith, ints, same, is, last, few, count, eleven)
 
     part_completes : (h.count ≡ 11 → ⊥) → two_hour_groups clock n channels (fed ++ g ∷ [])
@@ -330,7 +343,11 @@ module _ (clock : Clock) (n channels : ℕ) (fed : List Group) (g : Group) (v : 
         (running_on fed g v ticked below divisible h.tick h.count on.0 few on.2 on.3)
       where
         ten_at_most : (c : ℕ) → c ≤ 11 → (c ≡ 11 → ⊥) → c ≤ 10
-        ten_at_most c le other = elim (cases_eq c 11) [ inl is ↦ absurd (other is) | inr no_eleven ↦ grind (arith, le, no_eleven) ]
+        ten_at_most c le other = elim (cases_eq c 11) [
+          | inl is ↦ absurd (other is)
+          | inr no_eleven ↦ grind
+              (arith, le, no_eleven)
+        ]
 
 -- ---- the ways of a step
 
@@ -386,7 +403,8 @@ module _ (old mid : TwoHourView) (sum : SumView) (g : Group) (v : ℤ) (h : TwoH
     whole_done answer eleven is fed seen tens =
         let on = goes_on old.clock old.samples old.channels fed g v ticked tens old.hours old.sum seen h
         (next_some old.hours v h next) in
-        whole_completes old.clock old.samples old.channels fed g v ticked tens old.hours old.sum seen h on answer
+        whole_completes old.clock old.samples old.channels fed g v ticked tens old.hours old.sum seen h on
+        answer
         eleven (is (map as_part (tens_from fed h.tick h.count ++ g ∷ [])) (summed fed seen))
 
     pub whole_seen : (new : TwoHourView) → h.count ≡ 11 → new.hours ≡ None → SeesMore old new g
@@ -400,7 +418,8 @@ module _ (old mid : TwoHourView) (sum : SumView) (g : Group) (v : ℤ) (h : TwoH
     part_done other fed seen tens =
         let on = goes_on old.clock old.samples old.channels fed g v ticked tens old.hours old.sum seen h
         (next_some old.hours v h next) in
-        part_completes old.clock old.samples old.channels fed g v ticked tens old.hours old.sum seen h on other
+        part_completes old.clock old.samples old.channels fed g v ticked tens old.hours old.sum seen h on
+        other
 
     pub part_seen : (new : TwoHourView) → (h.count ≡ 11 → ⊥) → new.sum ≡ sum
         → new.hours ≡ Some (record { tick = h.tick; count = h.count + 1 }) → SeesMore old new g

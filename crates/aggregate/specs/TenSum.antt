@@ -40,7 +40,8 @@ pub record HasBegun (t : TenView) (place : ℕ) : Type 0 where
 
 -- the list ends with a segment that the first begins and the rest go on with, and the machine has its sum and
 -- its ten minutes
-pub record IsInSegment (t : TenView) (fed before : List Basic) (first : Basic) (rest : List Basic) : Type 0 where
+pub record IsInSegment (t : TenView) (fed before : List Basic) (first : Basic) (rest : List Basic) :
+    Type 0 where
   pub parts : fed ≡ before ++ first ∷ rest
   pub begins : first.front ≡ true
   pub goes_on : All (λ b. b.front ≡ false) rest
@@ -61,8 +62,8 @@ IsFed t fed = AreBasics t.clock t.samples t.channels fed
 abbrev pub MayFollow : TenView → Basic → Type 0
 MayFollow t b = (fed : List Basic) × HasSeen t fed × IsFed t (fed ++ b ∷ [])
 
--- whatever list the machine has seen that the basic interval may follow, it completes this 10-minute interval,
--- or none
+-- whatever list the machine has seen that the basic interval may follow, it completes this 10-minute
+-- interval, or none
 abbrev pub Completes : TenView → Basic → Option Group → Type 0
 Completes t b answer = (fed : List Basic) → HasSeen t fed → IsFed t (fed ++ b ∷ [])
     → ten_groups t.clock t.samples t.channels (fed ++ b ∷ [])

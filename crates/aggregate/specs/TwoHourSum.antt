@@ -44,7 +44,7 @@ next_hours hours tick =
     if begins_two_hours tick then Some (record { tick = tick; count = 0 })
     else option_and_then (λ h. if int_eq (next_ten h) tick then Some h else None) hours
 
--- two hours within range: their tick lies near 1970, and they have at most as many 10-minute intervals as two hours
+-- two hours within range: their tick lies near 1970, and they have at most twelve 10-minute intervals
 pub record IsNear (tick : ℤ) (count : ℕ) : Type 0 where
   pub near : IsWithin (10 ^ 10) tick
   pub few : count ≤ 12
@@ -93,8 +93,8 @@ IsFed t fed = AreTens t.clock t.samples fed
 abbrev pub MayFollow : TwoHourView → Group → Type 0
 MayFollow t g = (fed : List Group) × HasSeen t fed × IsFed t (fed ++ g ∷ [])
 
--- whatever list the machine has seen that the 10-minute interval may follow, it completes this 2-hour interval,
--- or none
+-- whatever list the machine has seen that the 10-minute interval may follow, it completes this 2-hour
+-- interval, or none
 abbrev pub Completes : TwoHourView → Group → Option Group → Type 0
 Completes t g answer = (fed : List Group) → HasSeen t fed → IsFed t (fed ++ g ∷ [])
     → two_hour_groups t.clock t.samples t.channels (fed ++ g ∷ [])

@@ -39,11 +39,11 @@ impl Model for TenSum {
     ghost Value = { TenView };
 
     ghost view = { λ t. record {
-        clock = t.clock;
-        samples = t.samples;
-        channels = t.channels;
-        sum = t.sum;
-        minutes = t.minutes;
+      clock = t.clock;
+      samples = t.samples;
+      channels = t.channels;
+      sum = t.sum;
+      minutes = t.minutes;
     } };
 
     ghost invariant = { λ t. IsSetting t.clock t.samples t.channels };
@@ -68,7 +68,13 @@ impl TenSum {
     }
 
     // Feeds the next basic interval, and gives the 10-minute interval that it completes.
-    pub(crate) fn step(&mut self, basic: Span, front: bool, values: &[u64], flagged: bool) -> Option<Group>
+    pub(crate) fn step(
+        &mut self,
+        basic: Span,
+        front: bool,
+        values: &[u64],
+        flagged: bool,
+    ) -> Option<Group>
         requires { MayFollow self.old (basic_of front basic values.now flagged) }
         ensures value { Completes self.old (basic_of front basic values.now flagged) result }
         ensures seen { SeesMore self.old self.new (basic_of front basic values.now flagged) }

@@ -36,11 +36,11 @@ impl Model for TwoHourSum {
     ghost Value = { TwoHourView };
 
     ghost view = { λ t. record {
-        clock = t.clock;
-        samples = t.samples;
-        channels = t.channels;
-        sum = t.sum;
-        hours = t.hours;
+      clock = t.clock;
+      samples = t.samples;
+      channels = t.channels;
+      sum = t.sum;
+      hours = t.hours;
     } };
 
     ghost invariant = { λ t. IsTwoHourSum t.clock t.samples t.channels t.hours };

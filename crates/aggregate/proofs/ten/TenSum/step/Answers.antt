@@ -1,9 +1,9 @@
 -- A front begins the sum anew; then the basic interval is added, and may reach the next tick.
-use Rattle.std.proofs.Common.{◌≡◌, ◌⊎◌, ◌&&◌, ◌<◌, ◌≤◌, nat_lt, nat_le, true, false, Some, None, FitsSigned, w64, rules, refl, sym, ◌∙◌, ap, subst, inl, inr, arith}
+use Rattle.std.proofs.Common.{◌≡◌, ◌&&◌, nat_lt, nat_le, true, false, Some, None, FitsSigned, w64, rules, refl, sym, ◌∙◌, ap, subst, inl, inr, arith}
 use Rattle.std.proofs.lemmas.Bool.{cases_Bool}
 use Rattle.std.proofs.lemmas.Int.{to_z-of_z}
-use Rattle.aggregate.specs.Aggregation.{Basic, group_of, parts_of}
-use Rattle.aggregate.specs.Sum.{Adds, SumView}
+use Rattle.aggregate.specs.Aggregation.{group_of, parts_of}
+use Rattle.aggregate.specs.Sum.{Adds}
 use Rattle.aggregate.specs.BasicOrder.{basic_of}
 use Rattle.aggregate.specs.TenSum.{TenView}
 use Rattle.aggregate.proofs.TenSumLaws.{last_basic, room_in, step_completes, step_sees, told_none, told_missed, told_reached}
@@ -46,7 +46,8 @@ returns-in_err-minutes-clause-value c =
     let gone : c.from_residual.result ≡ None = search rules in
     let adds : Adds mid.sum c.add.new.self b.part =
     subst (λ (v : TenView). Adds v.sum c.add.new.self b.part) c.self.view_is c.add.ensures.value in
-    step_completes old mid c.add.new.self b c.begin.ensures.same c.begin.ensures.begun c.begin.ensures.goes_on adds
+    step_completes old mid c.add.new.self b c.begin.ensures.same c.begin.ensures.begun
+    c.begin.ensures.goes_on adds
     c.from_residual.result
     (λ segment summed. told_none old.channels b segment mid.minutes c.from_residual.result
     (sym (ap (λ (v : TenView). v.minutes) c.self.view_is) ∙ none) gone)
@@ -65,7 +66,8 @@ returns-in_err-minutes-clause-seen c =
     } in
     let adds : Adds mid.sum c.add.new.self b.part =
     subst (λ (v : TenView). Adds v.sum c.add.new.self b.part) c.self.view_is c.add.ensures.value in
-    step_sees old mid c.add.new.self b c.begin.ensures.same c.begin.ensures.begun c.begin.ensures.goes_on adds new
+    step_sees old mid c.add.new.self b c.begin.ensures.same c.begin.ensures.begun c.begin.ensures.goes_on
+    adds new
     (record {
       same_clock = ap (λ (v : TenView). v.clock) c.self.view_is ∙ c.begin.ensures.same.same_clock;
       same_samples = ap (λ (v : TenView). v.samples) c.self.view_is ∙ c.begin.ensures.same.same_samples;
@@ -87,7 +89,8 @@ returns-then-end_in-clause-value c =
     ∙ c.begin.ensures.same.same_channels in
     let adds : Adds mid.sum c.add.new.self b.part =
     subst (λ (v : TenView). Adds v.sum c.add.new.self b.part) c.self.view_is c.add.ensures.value in
-    step_completes old mid c.add.new.self b c.begin.ensures.same c.begin.ensures.begun c.begin.ensures.goes_on adds
+    step_completes old mid c.add.new.self b c.begin.ensures.same c.begin.ensures.begun
+    c.begin.ensures.goes_on adds
     (Some c.group.result)
     (λ segment summed. told_reached old.channels b segment m mid.minutes c.group.result
     (sym (ap (λ (v : TenView). v.minutes) c.self.view_is) ∙ some) reached
@@ -109,7 +112,8 @@ returns-then-end_in-clause-seen c =
     } in
     let adds : Adds mid.sum c.add.new.self b.part =
     subst (λ (v : TenView). Adds v.sum c.add.new.self b.part) c.self.view_is c.add.ensures.value in
-    step_sees old mid c.add.new.self b c.begin.ensures.same c.begin.ensures.begun c.begin.ensures.goes_on adds new
+    step_sees old mid c.add.new.self b c.begin.ensures.same c.begin.ensures.begun c.begin.ensures.goes_on
+    adds new
     (record {
       same_clock = ap (λ (v : TenView). v.clock) c.self.view_is ∙ c.begin.ensures.same.same_clock;
       same_samples = ap (λ (v : TenView). v.samples) c.self.view_is ∙ c.begin.ensures.same.same_samples;
@@ -128,7 +132,8 @@ returns-clause-value c =
     let missed : (nat_lt b.part.start m.next && nat_le m.next b.part.end) ≡ false = search rules in
     let adds : Adds mid.sum c.add.new.self b.part =
     subst (λ (v : TenView). Adds v.sum c.add.new.self b.part) c.self.view_is c.add.ensures.value in
-    step_completes old mid c.add.new.self b c.begin.ensures.same c.begin.ensures.begun c.begin.ensures.goes_on adds
+    step_completes old mid c.add.new.self b c.begin.ensures.same c.begin.ensures.begun
+    c.begin.ensures.goes_on adds
     None
     (λ segment summed. told_missed old.channels b segment m mid.minutes
     (sym (ap (λ (v : TenView). v.minutes) c.self.view_is) ∙ some) missed)
@@ -147,7 +152,8 @@ returns-clause-seen c =
     } in
     let adds : Adds mid.sum c.add.new.self b.part =
     subst (λ (v : TenView). Adds v.sum c.add.new.self b.part) c.self.view_is c.add.ensures.value in
-    step_sees old mid c.add.new.self b c.begin.ensures.same c.begin.ensures.begun c.begin.ensures.goes_on adds new
+    step_sees old mid c.add.new.self b c.begin.ensures.same c.begin.ensures.begun c.begin.ensures.goes_on
+    adds new
     (record {
       same_clock = ap (λ (v : TenView). v.clock) c.self.view_is ∙ c.begin.ensures.same.same_clock;
       same_samples = ap (λ (v : TenView). v.samples) c.self.view_is ∙ c.begin.ensures.same.same_samples;

@@ -1,6 +1,4 @@
 -- Nothing is there, so nothing runs.
-use Rattle.std.proofs.Common.{ℕ, zero, suc, ℤ, pos, [], length, arith}
-use Rattle.aggregate.specs.TwoHourSum.{AreRunning, NoneRun}
 use Rattle.aggregate.proofs.TwoHourStepLaws.{none_run}
 use Rattle.aggregate.proofs.two_hour.TwoHourSum.new.Goals as goal
 

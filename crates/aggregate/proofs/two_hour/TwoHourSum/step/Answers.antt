@@ -1,13 +1,11 @@
 -- A 10-minute interval begins two hours or goes on with them, and may be their last; else none run.
-use Rattle.std.proofs.Common.{◌≡◌, ℕ, ◌+◌, ◌^◌, ◌<◌, ◌≤◌, Bool, true, false, ℤ, [], Option, Some, None, FitsSigned, to_z, of_z, w64, rules, refl, sym, ◌∙◌, ap, subst, inl, inr, arith}
-use Rattle.std.proofs.lemmas.Bool.{cases_Bool}
-use Rattle.std.proofs.lemmas.Int.{ints, to_z-of_z}
+use Rattle.std.proofs.Common.{◌≡◌, ℕ, ◌+◌, ◌^◌, true, false, ℤ, [], Option, Some, None, FitsSigned, to_z, of_z, w64, rules, refl, sym, ◌∙◌, ap, subst, arith}
+use Rattle.std.proofs.lemmas.Int.{to_z-of_z}
 use Rattle.std.proofs.lemmas.Option.{same_Some}
-use Rattle.aggregate.specs.declared.group.Group.{Group}
 use Rattle.aggregate.specs.declared.two_hour.TwoHours.{TwoHours}
 use Rattle.aggregate.specs.Aggregation.{as_part}
 use Rattle.aggregate.specs.BasicOrder.{IsSetting}
-use Rattle.aggregate.specs.Sum.{Adds, HasSummed, IsGroupOf, SumView}
+use Rattle.aggregate.specs.Sum.{Adds, HasSummed, IsGroupOf}
 use Rattle.aggregate.specs.TwoHourSum.{IsNear, TwoHourView, begins_two_hours, next_hours}
 use Rattle.pq_words.specs.Magnitude.{IsWithin}
 use Rattle.aggregate.proofs.TwoHourSumLaws.{last_ten, next_near, none_done, none_seen, part_done, part_seen, room_for, whole_done, whole_seen}
@@ -24,7 +22,8 @@ returns-in_err-hours-clause-value c =
     let fits : FitsSigned w64 v = search rules in
     let same : to_z w64 (of_z w64 v) ≡ v = to_z-of_z w64 v fits in
     let none : c.take_hours.result ≡ None = search rules in
-    let next : next_hours old.hours v ≡ None = sym (c.take_hours.ensures.value ∙ ap (next_hours old.hours) same)
+    let next : next_hours old.hours v ≡ None = sym (c.take_hours.ensures.value
+    ∙ ap (next_hours old.hours) same)
     ∙ none in
     let gone : c.from_residual-in_err-hours.result ≡ None = search rules in
     none_done old g v c.from_residual-in_err-hours.result ticked next gone
@@ -39,7 +38,8 @@ returns-in_err-hours-clause-seen c =
     let fits : FitsSigned w64 v = search rules in
     let same : to_z w64 (of_z w64 v) ≡ v = to_z-of_z w64 v fits in
     let none : c.take_hours.result ≡ None = search rules in
-    let next : next_hours old.hours v ≡ None = sym (c.take_hours.ensures.value ∙ ap (next_hours old.hours) same)
+    let next : next_hours old.hours v ≡ None = sym (c.take_hours.ensures.value
+    ∙ ap (next_hours old.hours) same)
     ∙ none in
     none_seen old mid g v ticked next c.take_hours.ensures.taken
 
@@ -55,14 +55,17 @@ add-requires-clause-room c =
     let same : to_z w64 (of_z w64 v) ≡ v = to_z-of_z w64 v fits in
     let h = c.in_ok-hours.hours in
     let some : c.take_hours.result ≡ Some h = search rules in
-    let next : next_hours old.hours v ≡ Some h = sym (c.take_hours.ensures.value ∙ ap (next_hours old.hours) same)
+    let next : next_hours old.hours v ≡ Some h = sym (c.take_hours.ensures.value
+    ∙ ap (next_hours old.hours) same)
     ∙ some in
     let anew : begins_two_hours v ≡ true → HasSummed mid.sum [] =
     λ e. c.take_hours.ensures.anew (ap begins_two_hours same ∙ e) in
     let stays : begins_two_hours v ≡ false → mid.sum ≡ old.sum =
     λ e. c.take_hours.ensures.goes_on (ap begins_two_hours same ∙ e) in
-    let room = room_for old mid c.self.inside.sum g v h ticked next anew stays c.requires.0 c.requires.1 c.requires.2 in
-    let count : c.self.inside.sum.count ≡ mid.sum.count = ap (λ (w : TwoHourView). w.sum.count) c.self.view_is in
+    let room = room_for old mid c.self.inside.sum g v h ticked next anew stays c.requires.0 c.requires.1
+    c.requires.2 in
+    let count : c.self.inside.sum.count ≡ mid.sum.count = ap (λ
+    (w : TwoHourView). w.sum.count) c.self.view_is in
     omega (arith, room, count)
 
 pub add-requires-clause-quiet : goal.add-requires-clause-quiet
@@ -71,7 +74,8 @@ add-requires-clause-quiet c =
     (last_ten old.clock old.samples c.requires.0 c.args.ten.now c.requires.2).quiet
 
 -- it is the twelfth
-pub returns-then-count-eq-TENS_IN_TWO_HOURS-clause-value : goal.returns-then-count-eq-TENS_IN_TWO_HOURS-clause-value
+pub returns-then-count-eq-TENS_IN_TWO_HOURS-clause-value :
+    goal.returns-then-count-eq-TENS_IN_TWO_HOURS-clause-value
 returns-then-count-eq-TENS_IN_TWO_HOURS-clause-value c =
     let old = c.args.self.now in
     let mid = c.take_hours.new.self in
@@ -82,7 +86,8 @@ returns-then-count-eq-TENS_IN_TWO_HOURS-clause-value c =
     let same : to_z w64 (of_z w64 v) ≡ v = to_z-of_z w64 v fits in
     let h = c.in_ok-hours.hours in
     let some : c.take_hours.result ≡ Some h = search rules in
-    let next : next_hours old.hours v ≡ Some h = sym (c.take_hours.ensures.value ∙ ap (next_hours old.hours) same)
+    let next : next_hours old.hours v ≡ Some h = sym (c.take_hours.ensures.value
+    ∙ ap (next_hours old.hours) same)
     ∙ some in
     let anew : begins_two_hours v ≡ true → HasSummed mid.sum [] =
     λ e. c.take_hours.ensures.anew (ap begins_two_hours same ∙ e) in
@@ -101,7 +106,8 @@ returns-then-count-eq-TENS_IN_TWO_HOURS-clause-value c =
     c.group.ensures.value) in
     whole_done old mid c.add.new.self g v h ticked next anew stays adds c.group.result eleven is
 
-pub returns-then-count-eq-TENS_IN_TWO_HOURS-clause-seen : goal.returns-then-count-eq-TENS_IN_TWO_HOURS-clause-seen
+pub returns-then-count-eq-TENS_IN_TWO_HOURS-clause-seen :
+    goal.returns-then-count-eq-TENS_IN_TWO_HOURS-clause-seen
 returns-then-count-eq-TENS_IN_TWO_HOURS-clause-seen c =
     let old = c.args.self.now in
     let mid = c.take_hours.new.self in
@@ -112,7 +118,8 @@ returns-then-count-eq-TENS_IN_TWO_HOURS-clause-seen c =
     let same : to_z w64 (of_z w64 v) ≡ v = to_z-of_z w64 v fits in
     let h = c.in_ok-hours.hours in
     let some : c.take_hours.result ≡ Some h = search rules in
-    let next : next_hours old.hours v ≡ Some h = sym (c.take_hours.ensures.value ∙ ap (next_hours old.hours) same)
+    let next : next_hours old.hours v ≡ Some h = sym (c.take_hours.ensures.value
+    ∙ ap (next_hours old.hours) same)
     ∙ some in
     let anew : begins_two_hours v ≡ true → HasSummed mid.sum [] =
     λ e. c.take_hours.ensures.anew (ap begins_two_hours same ∙ e) in
@@ -143,7 +150,8 @@ invariant_of-self-2 c =
     let same : to_z w64 (of_z w64 v) ≡ v = to_z-of_z w64 v fits in
     let h = c.in_ok-hours.hours in
     let some : c.take_hours.result ≡ Some h = search rules in
-    let next : next_hours old.hours v ≡ Some h = sym (c.take_hours.ensures.value ∙ ap (next_hours old.hours) same)
+    let next : next_hours old.hours v ≡ Some h = sym (c.take_hours.ensures.value
+    ∙ ap (next_hours old.hours) same)
     ∙ some in
     let anew : begins_two_hours v ≡ true → HasSummed mid.sum [] =
     λ e. c.take_hours.ensures.anew (ap begins_two_hours same ∙ e) in
@@ -183,7 +191,8 @@ returns-clause-value c =
     let same : to_z w64 (of_z w64 v) ≡ v = to_z-of_z w64 v fits in
     let h = c.in_ok-hours.hours in
     let some : c.take_hours.result ≡ Some h = search rules in
-    let next : next_hours old.hours v ≡ Some h = sym (c.take_hours.ensures.value ∙ ap (next_hours old.hours) same)
+    let next : next_hours old.hours v ≡ Some h = sym (c.take_hours.ensures.value
+    ∙ ap (next_hours old.hours) same)
     ∙ some in
     let anew : begins_two_hours v ≡ true → HasSummed mid.sum [] =
     λ e. c.take_hours.ensures.anew (ap begins_two_hours same ∙ e) in
@@ -205,7 +214,8 @@ returns-clause-seen c =
     let same : to_z w64 (of_z w64 v) ≡ v = to_z-of_z w64 v fits in
     let h = c.in_ok-hours.hours in
     let some : c.take_hours.result ≡ Some h = search rules in
-    let next : next_hours old.hours v ≡ Some h = sym (c.take_hours.ensures.value ∙ ap (next_hours old.hours) same)
+    let next : next_hours old.hours v ≡ Some h = sym (c.take_hours.ensures.value
+    ∙ ap (next_hours old.hours) same)
     ∙ some in
     let anew : begins_two_hours v ≡ true → HasSummed mid.sum [] =
     λ e. c.take_hours.ensures.anew (ap begins_two_hours same ∙ e) in
