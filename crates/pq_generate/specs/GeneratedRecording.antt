@@ -30,10 +30,10 @@ manner_of (suc (suc more)) = Raised
 -- the disturbance of an index that a number gives: up to 50 cycles of a channel, within the 3000 of its index
 unfoldable pub disturbance_by : ℕ → ℕ → Disturbance
 disturbance_by index x = record {
-  first_cycle = 3000 * index + 100 + x / 2 ^ 33 % 2000;
-  cycles = 1 + x / 2 ^ 20 % 50;
-  channel = 1 + x / 2 ^ 10 % 3;
-  manner = manner_of (x / 2 ^ 5 % 3);
+  first_cycle = 3000 * index + 100 + (x / 2 ^ 33) % 2000;
+  cycles = 1 + (x / 2 ^ 20) % 50;
+  channel = 1 + (x / 2 ^ 10) % 3;
+  manner = manner_of ((x / 2 ^ 5) % 3);
 }
 
 -- that of a seed: by the first number after it for index 0, by the next one for the next index
@@ -46,7 +46,7 @@ disturbances seed = map (disturbance_of seed) (numbers_below 10)
 
 -- ---- counts
 
--- half a cycle of the sine, which 24 samples have, and the cycle
+-- half a cycle of the sine, from zero upwards, and the whole cycle of 24 samples
 abbrev pub half_sine : List ℕ
 half_sine = 0 ∷ 2588 ∷ 5000 ∷ 7071 ∷ 8660 ∷ 9659 ∷ 10000 ∷ 9659 ∷ 8660 ∷ 7071 ∷ 5000 ∷ 2588 ∷ []
 
