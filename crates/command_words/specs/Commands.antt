@@ -1,8 +1,10 @@
 -- The subject: the commands, and the words that say them (profile).
-use Rattle.std.specs.Prelude.{◌≡◌, ℕ, ◌≤◌, ◌&&◌, nat_le, if◌then◌else◌, List, [], ◌∷◌, map, Option, None, Some, option_map, option_and_then, Result, Ok, Err, codes, String, string_bytes}
-use Rattle.std.specs.Option.{ok_or}
+use Rattle.std.specs.Prelude.{ℕ, if◌then◌else◌, List, [], ◌∷◌, map, Option, option_map, Result, Ok, Err, codes, String, string_bytes}
 use Rattle.std.specs.Str.{bytes_eq}
 use Rattle.std.specs.declared.alloc.Global.{Global}
+use Rattle.clap.specs.Words.{Row, first_of}
+use Rattle.command_words.specs.Simple.{check_app, measuring_app, said_by}
+use Rattle.command_words.specs.Values.{channel_of, channels_of, optional, settings_of, understood}
 use Rattle.command_words.specs.declared.command.Command.{Command}
 use Rattle.command_words.specs.declared.command.Command.TheVariants as command
 use Rattle.command_words.specs.declared.command.Measuring.{Measuring}
@@ -10,8 +12,8 @@ use Rattle.command_words.specs.declared.command.WordsFault.{WordsFault}
 use Rattle.command_words.specs.declared.command.WordsFault.TheVariants as fault
 use Rattle.event_detect.specs.Threshold.{IsInRange}
 use Rattle.event_detect.specs.declared.limits.Settings.{Settings}
-use Rattle.event_detect.specs.declared.limits.TheConstants.{MOST_UDIN}
-use Rattle.pq_words.specs.Text.{Text, number}
+use Rattle.pq_words.specs.FirstFault.{◌>>=◌}
+use Rattle.pq_words.specs.Text.{Text}
 
 -- what a recording is measured by, and the names of its files: channels and reference are numbers of channels
 pub record Measurement : Type 0 where
@@ -42,48 +44,32 @@ command_view (command.Check cfg) = Check cfg.now
 command_view (command.Intervals m) = Intervals (measuring_view m)
 command_view (command.Analyse m) = Analyse (measuring_view m)
 
--- a declared voltage is from 1 to 1,000,000,000 millivolts
-pub record IsVoltage (udin_mv : ℕ) : Type 0 where
-  pub least : 1 ≤ udin_mv
-  pub most : udin_mv ≤ MOST_UDIN
+-- what the options and the positionals of a measurement say
+unfoldable pub measured : List Row → Result Measurement WordsFault
+measured rows = do
+  settings ← settings_of rows
+  channels ← optional channels_of (first_of (codes "channels") rows)
+  reference ← optional channel_of (first_of (codes "reference") rows)
+  cfg ← understood (first_of (codes "cfg") rows)
+  dat ← understood (first_of (codes "dat") rows)
+  Ok (record {
+    settings = settings;
+    channels = channels;
+    reference = reference;
+    cfg = cfg;
+    dat = dat;
+  })
 
--- the declared voltage that a text writes: a Number in that range
-abbrev pub voltage_of : Text → Option ℕ
-voltage_of text =
-    option_and_then (λ n. if nat_le 1 n && nat_le n MOST_UDIN then Some n else None) (number text)
+-- what the words after the name of `intervals` or `analyse` say
+abbrev pub measurement_of : List Text → Result Measurement WordsFault
+measurement_of words = said_by measuring_app words >>= measured
 
--- a declared voltage in millivolts, and the usual thresholds and hysteresis in thousandths of it
-abbrev pub usual_settings : ℕ → Settings
-usual_settings udin_mv = record {
-  udin_mv = udin_mv;
-  dip = 900;
-  swell = 1100;
-  interruption = 50;
-  hysteresis = 20;
-}
-
--- all channels are measured, under the usual thresholds
-abbrev pub usual_measurement : ℕ → Text → Text → Measurement
-usual_measurement udin_mv cfg dat = record {
-  settings = usual_settings udin_mv;
-  channels = None;
-  reference = None;
-  cfg = cfg;
-  dat = dat;
-}
-
--- `--udin MV CFG DAT`, where MV is a declared voltage
-unfoldable pub measurement_of : List Text → Result Measurement WordsFault
-measurement_of (option ∷ mv ∷ cfg ∷ dat ∷ []) =
-    if bytes_eq option (codes "--udin")
-    then ok_or (option_map (λ udin_mv. usual_measurement udin_mv cfg dat) (voltage_of mv)) fault.NotUnderstood
-    else Err fault.NotUnderstood
-measurement_of _ = Err fault.NotUnderstood
-
--- `CFG`
+-- what the words after the name of `check` say
 unfoldable pub check_task : List Text → Result Task WordsFault
-check_task (cfg ∷ []) = Ok (Check cfg)
-check_task _ = Err fault.NotUnderstood
+check_task words = do
+  rows ← said_by check_app words
+  cfg ← understood (first_of (codes "cfg") rows)
+  Ok (Check cfg)
 
 abbrev pub then_task : (Measurement → Task) → Result Measurement WordsFault → Result Task WordsFault
 then_task task (Ok m) = Ok (task m)

@@ -1,5 +1,6 @@
 // The commands, with what their words say.
 use event_detect::Settings;
+use std::alloc::{AllocError, AllocFailed};
 
 /// A command, with what its words say.
 #[derive(Drop)]
@@ -32,4 +33,26 @@ pub enum WordsFault {
     NotUnderstood,
     /// There is no memory for what they say.
     OutOfMemory,
+}
+
+impl From<AllocError> for WordsFault {
+    ghost use Rattle.std.specs.Prelude.{◌≡◌};
+    ghost use Rattle.command_words.specs.declared.command.WordsFault.TheVariants as fault;
+
+    ghost from_gives = { λ _ why. why ≡ fault.OutOfMemory };
+
+    fn from(_error: AllocError) -> WordsFault {
+        WordsFault::OutOfMemory
+    }
+}
+
+impl<T: Drop> From<AllocFailed<T>> for WordsFault {
+    ghost use Rattle.std.specs.Prelude.{◌≡◌};
+    ghost use Rattle.command_words.specs.declared.command.WordsFault.TheVariants as fault;
+
+    ghost from_gives = { λ _ why. why ≡ fault.OutOfMemory };
+
+    fn from(_error: AllocFailed<T>) -> WordsFault {
+        WordsFault::OutOfMemory
+    }
 }

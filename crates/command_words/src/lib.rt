@@ -4,5 +4,13 @@
 pub use command::{Command, Measuring, WordsFault};
 pub use reading::read_words;
 
+mod channels;
 mod command;
+mod measuring;
+mod number;
 mod reading;
+mod simple;
+#[cfg(test)]
+mod tests;
+mod thresholds;
+mod values;

@@ -44,7 +44,8 @@ pub after_good_cfg : {K : Type 0} (told : shelf.Ghosts K) (a b c : K) (limits : 
     → IsRead (files_course limits m) (reading_of told a c) result
 after_good_cfg told a b c limits m cfg s result h same good rest =
     after_cfg told a b c limits m cfg result h same
-    (goes_on_good (selected_configuration m.channels m.reference cfg) s _ (reading_of told b c) result good rest)
+    (goes_on_good (selected_configuration m.channels m.reference cfg) s _ (reading_of told b c) result good
+    rest)
 
 -- and a dat was read
 pub after_dat : {K : Type 0} (told : shelf.Ghosts K) (a b c : K) (limits : Limits) (m : Measurement)

@@ -31,7 +31,8 @@ abbrev pub selected_cfg_view : SelectedCfg → SelectedConfiguration
 selected_cfg_view s = record { configuration = cfg_view s.cfg; selected = selection_view s.selection }
 
 -- a cfg, judged in order: its lines, and the selection of wanted channels and a reference
-unfoldable pub selected_configuration : Option (List ℕ) → Option ℕ → Text → Result SelectedConfiguration Status
+unfoldable pub selected_configuration : Option (List ℕ) → Option ℕ → Text
+    → Result SelectedConfiguration Status
 selected_configuration wanted reference cfg = do
   c ← or_refused cfg_refusal (configuration_of cfg)
   s ← or_refused select_refusal (selected_of c wanted reference)

@@ -1,4 +1,4 @@
-// How the faults of words, settings, cfg, selection and dat are refused. Want of memory is a status by itself.
+// How faults of words, settings, cfg, selection and dat are refused. Want of memory is a status by itself.
 use crate::status::Status;
 use comtrade_cfg::{CfgFault, Quantity, SelectFault};
 use comtrade_dat::DatFault;

@@ -256,7 +256,7 @@ fn words_that_are_not_understood(rt: HostRuntime) -> Result<(), Fail> {
         &["intervals", "--udin", "00000000001", "a.cfg", "a.dat"],
         &["intervals", "--udin", "+1", "a.cfg", "a.dat"],
         &["analyse", "--udin", "1", "a.cfg", "a.dat"],
-        &["intervals", "a.cfg", "a.dat", "--udin", "1"],
+        &["intervals", "a.cfg", "a.dat"],
         &["check"],
         &["check", "a.cfg", "a.dat"],
         &[],

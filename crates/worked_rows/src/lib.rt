@@ -12,6 +12,8 @@ mod dats;
 #[cfg(test)]
 mod intervals;
 #[cfg(test)]
+mod options;
+#[cfg(test)]
 mod program;
 #[cfg(test)]
 mod reports;

@@ -14,7 +14,8 @@ pub returns-in-Ok-Check : goal.returns-in-Ok-Check
 returns-in-Ok-Check g c =
     subst (λ (task : Result Task WordsFault). IsRead (still_task_course task)
     (reading_of g.K.Shelf c.args.shelf.now c.check.new.shelf) c.check.result)
-    (ap (λ (x : Command). Ok (command_view x)) (sym c.in-Ok-Check.field-0-is) ∙ sym c.in-Ok-Check.ensures.value)
+    (ap (λ (x : Command). Ok (command_view x)) (sym c.in-Ok-Check.field-0-is)
+    ∙ sym c.in-Ok-Check.ensures.value)
     c.check.ensures
 
 pub returns-in-Ok-Intervals : goal.returns-in-Ok-Intervals
