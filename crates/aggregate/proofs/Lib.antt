@@ -1,3 +1,4 @@
+mod StandardFacts
 pub mod SumLaws
 pub mod ShortLaws
 pub mod PairLaws

@@ -11,4 +11,6 @@ mod laws;
 mod short;
 mod sum;
 mod ten;
+#[cfg(test)]
+mod tests;
 mod two_hour;
