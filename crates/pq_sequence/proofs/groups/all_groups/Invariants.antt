@@ -6,7 +6,7 @@ use Rattle.pq_sequence.proofs.groups.all_groups.Given as goal
 -- what the basic intervals so far make
 abbrev pub invariant-loop-basic : goal.invariant-loop-basic
 invariant-loop-basic l = record {
-  seen : HasSeen l.aggregator (basics_seen l.channels (take l.basic-index l.basics));
+  seen : HasSeen l.aggregator (take l.basic-index (basics_seen l.channels l.basics));
   setting : HasSetting l.aggregator l.fn.clock l.n l.channels;
-  groups : AreGroupsOf l.fn.clock l.n l.channels (basics_seen l.channels (take l.basic-index l.basics)) l.groups;
+  groups : AreGroupsOf l.fn.clock l.n l.channels (take l.basic-index (basics_seen l.channels l.basics)) l.groups;
 }
