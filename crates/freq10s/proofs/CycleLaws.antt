@@ -25,7 +25,8 @@ falling_first b later h = ap (λ r. map (λ (c : Boundary). c.place)
 
 -- the boundary that comes next and those after it are all
 pub left_of_cycles : (upcoming : Option ℕ) (later all : List Boundary) →
-    StepsTo (rising_places all) upcoming (rising_places later) → cycles_left upcoming later ≡ rising_places all
+    StepsTo (rising_places all) upcoming (rising_places later) →
+    cycles_left upcoming later ≡ rising_places all
 left_of_cycles None later all is = sym is
 left_of_cycles (Some place) later all is = sym is
 
@@ -65,10 +66,11 @@ is_not_from : (place k : ℕ) → k < place → nat_le place k ≡ false
 is_not_from place k before = grind (arith, nat_tests)
 
 -- one boundary more in the interval, or before it
-pub within_more : (low high k : ℕ) (later : List ℕ) → low ≤ k → k ≤ high → boundaries_within (k ∷ later) low high
-    ≡ k ∷ boundaries_within later low high
+pub within_more : (low high k : ℕ) (later : List ℕ) → low ≤ k → k ≤ high →
+    boundaries_within (k ∷ later) low high ≡ k ∷ boundaries_within later low high
 within_more low high k later from until =
-    kept (nat_le low k && nat_le k high) k (boundaries_within later low high) (is_within low high k from until)
+    kept (nat_le low k && nat_le k high) k (boundaries_within later low high)
+    (is_within low high k from until)
 
 pub within_same : (low high k : ℕ) (later : List ℕ) → k < low → boundaries_within (k ∷ later) low high
     ≡ boundaries_within later low high
@@ -93,7 +95,8 @@ from_same place k later before =
 all_from : (place : ℕ) (later : List ℕ) → All (λ k. place ≤ k) later → boundaries_from place later ≡ later
 all_from place [] from = refl
 all_from place (k ∷ later) from =
-    kept (nat_le place k) k (boundaries_from place later) (is_from place k (All-head (λ m. place ≤ m) k later from))
+    kept (nat_le place k) k (boundaries_from place later)
+    (is_from place k (All-head (λ m. place ≤ m) k later from))
     ∙ ap (λ ks. k ∷ ks) (all_from place later (All-tail (λ m. place ≤ m) k later from))
 
 -- where the first lies at the place or after it, all do

@@ -97,7 +97,8 @@ readings_later rate low boundaries [] follow = refl
 readings_later rate low boundaries (i ∷ later) follow =
     let rest = follow_earlier low i.end later (omega (arith, follow.0, follow.1)) follow.2 in
     ap (λ within. cons_option (reading_within rate i.tick i.start i.end within)
-    (readings_over rate (boundaries_from low boundaries) later)) (within_later low i.start i.end boundaries follow.0)
+    (readings_over rate (boundaries_from low boundaries) later))
+    (within_later low i.start i.end boundaries follow.0)
     ∙ ap (cons_option (reading_over rate boundaries i)) (readings_later rate low boundaries later rest)
 
 -- boundaries from a place on are in order

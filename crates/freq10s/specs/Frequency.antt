@@ -1,5 +1,5 @@
--- The subject: power frequency, the whole cycles in a 10-second interval of the clock by their duration (5.1).
--- Which boundaries cycles have, and the rounding, is profile.
+-- The subject: power frequency, the whole cycles in a 10-second interval of the clock by their duration
+-- (5.1). Which boundaries cycles have, and the rounding, is profile.
 -- Sections are those of IEC 61000-4-30:2015; "profile" marks a choice of this project.
 use Rattle.std.specs.Prelude.{ℕ, ◌-◌, ◌*◌, ◌/◌, ◌&&◌, nat_le, List, length, filter, filter_map, zip, drop, ℤ, Option, None, Some, slice_index, if◌then◌else◌}
 use Rattle.freq10s.specs.declared.reading.Reading.{Reading}

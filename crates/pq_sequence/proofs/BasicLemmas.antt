@@ -1,12 +1,8 @@
 -- Basic intervals as runs of cycles.
-use Rattle.std.proofs.Common.{◌≡◌, ℕ, zero, suc, ◌+◌, ◌-◌, ◌<◌, ◌==◌, Bool, true, false, if◌then◌else◌, List, [], ◌∷◌, ◌++◌, length, map, All, refl, sym, ◌∙◌, ap, append_assoc, arith}
+use Rattle.std.proofs.Common.{◌≡◌, ℕ, zero, suc, ◌+◌, ◌-◌, ◌<◌, ◌==◌, Bool, true, false, if◌then◌else◌, List, length, All, arith}
 use Rattle.std.proofs.lemmas.List.Elements.{All-cons, All-filter, All-map, All-nil, All-weaker}
-use Rattle.pq_base.specs.Recorded.{Recorded}
-use Rattle.pq_items.specs.declared.item.Item.{Item}
 use Rattle.pq_sequence.specs.BasicInterval.{IsRun, basic_span, cycles_of}
-use Rattle.pq_sequence.specs.SequentialResult.{basic_over}
 use Rattle.pq_words.specs.Steps.{numbers_below, numbers_from}
-use Rattle.pq_words.proofs.StepLaws.{map_below_push}
 use Rattle.ten_twelve.specs.Run.{begins_run, run_from, runs}
 use Rattle.ten_twelve.specs.declared.span.Span.{Span}
 use Rattle.zero_cross.specs.Boundary.{AreBoundaries}
@@ -44,22 +40,3 @@ runs_lie starts cycles boundaries some =
 pub starts_before : (boundaries : List ℕ) (count : ℕ) (run : Span) → IsRun (length boundaries) run →
     AreBoundaries boundaries count → (basic_span boundaries run).start < (basic_span boundaries run).end
 starts_before boundaries count run is are = are.rising run.start run.end 0 is.some is.there
-
--- the basic intervals of the first channels over a span
-abbrev pub basics_first : Recorded → Span → Bool → ℕ → List Item
-basics_first r span flagged n = map (λ position. basic_over r position span flagged) (numbers_below n)
-
-pub basics_none : (r : Recorded) (span : Span) (flagged : Bool) → basics_first r span flagged 0 ≡ []
-unfolding numbers_from
-basics_none r span flagged = refl
-
--- one channel more
-pub basics_more : (r : Recorded) (span : Span) (flagged : Bool) (n : ℕ) (before now after : List Item) →
-    now ≡ before ++ basics_first r span flagged n → after ≡ now ++ basic_over r n span flagged ∷ [] →
-    after ≡ before ++ basics_first r span flagged (n + 1)
-basics_more r span flagged n before now after so_far pushed =
-    let here = basic_over r n span flagged in
-    pushed
-    ∙ ap (λ items. items ++ here ∷ []) so_far
-    ∙ append_assoc before (basics_first r span flagged n) (here ∷ [])
-    ∙ ap (λ items. before ++ items) (sym (map_below_push (λ position. basic_over r position span flagged) n))

@@ -1,5 +1,7 @@
 -- Worked recordings with their whole results, so that a wrong rule in the specs does not check.
 use Rattle.std.proofs.Common.{◌≡◌, ◌*◌, ◌^◌, ℕ, ℤ, List, [], ◌∷◌, map, replicate, true, false, refl, pos, neg_ℤ, ◌+ℤ◌, ◌*ℤ◌}
+use Rattle.aggregate.specs.Aggregation.{group_of, segment_of, short_groups, ten_group, ten_groups, two_hour_group, two_hour_groups}
+use Rattle.freq10s.specs.Frequency.{reading_of, readings}
 use Rattle.pq_base.specs.Recorded.{Recorded}
 use Rattle.event_detect.specs.declared.limits.Limits.{Limits}
 use Rattle.event_detect.specs.Threshold.{limits_of, class_of}
@@ -16,9 +18,9 @@ use Rattle.pq_sequence.specs.Touches.{is_reached}
 use Rattle.pq_sequence.specs.declared.touches.Reach.{Reach}
 use Rattle.pq_time.specs.Tick.{ticks}
 use Rattle.pq_time.specs.Time.{place_of, time_of}
-use Rattle.ten_twelve.specs.Run.{runs}
+use Rattle.ten_twelve.specs.Run.{marked, runs}
 use Rattle.half_cycle.specs.HalfCycleWindow.{window_between, windows_over, windows}
-use Rattle.fixed_rms.specs.Root.{root_in, isqrt, mean_square, rms}
+use Rattle.fixed_rms.specs.Root.{root_in, isqrt, mean_of_squares, mean_square, rms, root_mean}
 use Rattle.zero_cross.specs.Boundary.{rule_of, first_boundary, next_boundary, boundaries, cycle_boundaries}
 use Rattle.pq_words.specs.First.{first_of, first_between}
 use Rattle.pq_words.specs.Successors.{successors}
@@ -49,7 +51,8 @@ recorded samples = from_noon (pos 1000) samples
 
 -- what a result computes by
 unfoldable computed : Recorded → Limits → List Item
-unfolding sequential items_under all_polyphase_events merged_windows conditions begins ends latest limits_of
+unfolding sequential items_under readings reading_of short_groups ten_groups ten_group segment_of
+    two_hour_groups two_hour_group group_of marked root_mean mean_of_squares all_polyphase_events merged_windows conditions begins ends latest limits_of
     class_of is_touched event_from extents event_over events
     tick_places ticks place_of time_of fronts front_of basic_runs runs windows window_between windows_over
     root_in isqrt mean_square rms rule_of first_boundary next_boundary boundaries cycle_boundaries first_of

@@ -48,9 +48,21 @@ two_hour_item r g position =
     item.TwoHour (number_of r position) (unwrap_or g.tick (pos 0)) g.start g.end
     (slice_index g.values position) g.flagged
 
+-- readings as items
+abbrev pub reading_items : List Event → List Reading → List Item
+reading_items events readings = map (reading_item events) readings
+
+-- an interval as items, one a channel
+abbrev pub channel_items : Recorded → (ℕ → Item) → List Item
+channel_items r item_at = map item_at (positions r)
+
 -- intervals as items, one a channel of each
 abbrev pub for_each_channel : {X : Type 0} → Recorded → (X → ℕ → Item) → List X → List Item
-for_each_channel r item_of intervals = flat_map (λ interval. map (item_of interval) (positions r)) intervals
+for_each_channel r item_of intervals = flat_map (λ interval. channel_items r (item_of interval)) intervals
+
+-- basic intervals as items
+abbrev pub basic_items : Recorded → List Basic → List Item
+basic_items r basics = for_each_channel r (basic_item r) (parts_of basics)
 
 -- the event of a kind, with the number of its channel
 abbrev pub item_of_kind : Kind → ℕ → Event → Item
@@ -71,8 +83,8 @@ event_items r events = map (event_item r) events
 abbrev pub items_over : Recorded → List Event → List Reading → List Basic → List Item
 items_over r events readings basics =
     let tens = tens_of r basics in
-    map (reading_item events) readings
-    ++ for_each_channel r (basic_item r) (parts_of basics)
+    reading_items events readings
+    ++ basic_items r basics
     ++ for_each_channel r (short_item r) (shorts_of r basics)
     ++ for_each_channel r (ten_item r) tens
     ++ for_each_channel r (two_hour_item r) (two_hours_of r tens)

@@ -24,3 +24,11 @@ pub record AreReaches (events : List Event) (reaches : List Reach) : Type 0 wher
 abbrev pub TellsTouch : List Reach → Span → Bool → Type 0
 TellsTouch reaches span answer = (events : List Event) → AreReaches events reaches →
     answer ≡ is_touched events span.start span.end
+
+-- what is said of events is true of whatever events have these reaches
+abbrev pub ForEventsOf : List Reach → (List Event → Type 0) → Type 0
+ForEventsOf reaches P = (events : List Event) → AreReaches events reaches → P events
+
+-- some events have these reaches
+abbrev pub AreReachesOfSome : List Reach → Type 0
+AreReachesOfSome reaches = (events : List Event) × AreReaches events reaches

@@ -1,5 +1,5 @@
-//! The sequential result of a recording of one or several channels: the basic intervals of each, flagged
-//! alike where an event touches them, and the events of the whole supply, in order.
+//! The sequential result of a recording of one or several channels: frequency, the basic intervals of each
+//! channel and what they are aggregated to, and the events of the whole supply, in order.
 #![tactic(auto)]
 
 pub use clock::clock_of;
@@ -10,7 +10,10 @@ mod basics;
 mod clock;
 mod cycles;
 mod fronts;
+mod groups;
+mod items;
 mod laws;
+mod readings;
 mod sequential;
 #[cfg(test)]
 mod tests;

@@ -14,8 +14,8 @@ supply_events-requires-clause-channels c =
     (omega (arith, count, is.paired, is.channels), omega (arith, count, is.paired, is.channels))
 
 -- their merged windows are the recording's
-pub returns : goal.returns
-returns c =
+pub returns-clause-value : goal.returns-clause-value
+returns-clause-value c =
     let r = c.args.recording.now in
     let limits = c.args.limits.now in
     let is = c.len.ensures.conditions in

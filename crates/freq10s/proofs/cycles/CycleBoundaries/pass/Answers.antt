@@ -15,8 +15,10 @@ loop-boundary-preserved-then-boundary-low c =
     let k = c.in-Some.boundary in
     let later = c.next_below.new.self in
     let splits = c.in-Some.ensures.0 in
-    let are = subst (λ (ks : List ℕ). AreBoundaries ks MOST_SAMPLES) splits c.loop-boundary.invariant.boundaries in
-    let last : c.with_boundary.result.last ≡ k = ap (λ w. w.last) c.with_boundary.ensures.value ∙ last_is cycles k in
+    let are = subst (λ (ks : List ℕ). AreBoundaries ks MOST_SAMPLES) splits
+    c.loop-boundary.invariant.boundaries in
+    let last : c.with_boundary.result.last ≡ k = ap (λ w. w.last) c.with_boundary.ensures.value
+    ∙ last_is cycles k in
     record {
       value = ap (λ w. cycles_more (Some w) (boundaries_within later low high)) c.with_boundary.ensures.value
           ∙ sym (cycles_step cycles k (boundaries_within later low high))
@@ -41,7 +43,8 @@ loop-boundary-preserved c =
     let k = c.in-Some.boundary in
     let later = c.next_below.new.self in
     let splits = c.in-Some.ensures.0 in
-    let are = subst (λ (ks : List ℕ). AreBoundaries ks MOST_SAMPLES) splits c.loop-boundary.invariant.boundaries in
+    let are = subst (λ (ks : List ℕ). AreBoundaries ks MOST_SAMPLES) splits
+    c.loop-boundary.invariant.boundaries in
     record {
       value = sym (ap (cycles_more cycles) (within_same low high k later (omega arith)))
           ∙ sym (ap (λ ks. cycles_more cycles (boundaries_within ks low high)) splits)

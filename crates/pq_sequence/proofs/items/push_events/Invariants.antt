@@ -1,7 +1,7 @@
 use Rattle.std.proofs.Common.{take}
 use Rattle.pq_sequence.specs.Lists.{Adds}
 use Rattle.pq_sequence.specs.SequentialResult.{event_items}
-use Rattle.pq_sequence.proofs.sequential.push_event_items.Given as goal
+use Rattle.pq_sequence.proofs.items.push_events.Given as goal
 
 -- the events so far
 abbrev pub invariant-loop-event : goal.invariant-loop-event
