@@ -9,10 +9,7 @@ use std::alloc::{AllocError, Global};
 use supply_events::Queue;
 
 /// The windows of the channels of a recording, each on its own crossings, as they are asked for.
-pub fn channel_windows(
-    alloc: Global,
-    recording: &Recording,
-) -> Result<Vec<Queue<'_>>, AllocError>
+pub fn channel_windows(alloc: Global, recording: &Recording) -> Result<Vec<Queue<'_>>, AllocError>
     ensures value { IfOk result (λ found. found.items ≡ windows_by_channel recording.now) }
     ensures rise { IfOk result (λ found. All Rise found.items) }
 {
