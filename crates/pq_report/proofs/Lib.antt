@@ -1,2 +1,9 @@
 mod PlainLemmas
 mod QuoteLemmas
+mod CuttingLemmas
+mod NamesLemmas
+mod DigitLemmas
+mod TickLemmas
+mod ReadingLaws
+mod FieldBackLemmas
+mod RowBackLemmas
