@@ -7,3 +7,5 @@ mod TickLemmas
 mod ReadingLaws
 mod FieldBackLemmas
 mod RowBackLemmas
+mod ItemBackLemmas
+mod ReadsBackLemmas

@@ -39,7 +39,7 @@ bind_fault : {A B : Type 0} (r : Result A ReportFault) (f : A → Result B Repor
     (r >>= f) ≡ Err e
 bind_fault r f e is = rw is refl
 
-bind_value : {A B : Type 0} (r : Result A ReportFault) (f : A → Result B ReportFault) (x : A) → r ≡ Ok x →
+pub bind_value : {A B : Type 0} (r : Result A ReportFault) (f : A → Result B ReportFault) (x : A) → r ≡ Ok x →
     (r >>= f) ≡ f x
 bind_value r f x is = rw is refl
 
@@ -100,7 +100,8 @@ fault_given (Err x) e read is found = inr (found ∙ ap Err (sym is))
 
 -- ---- the header, and the rows
 
-report_cons : (clock : Clock) (first : Text) (parts : List Text) → 1 ≤ length parts → parts_read clock (first ∷ parts)
+-- the header row, and others behind it
+pub report_cons : (clock : Clock) (first : Text) (parts : List Text) → 1 ≤ length parts → parts_read clock (first ∷ parts)
     ≡ (in_row 1 (header_read (parted_at 44 first)) >>= λ named. rows_read clock 2 parts)
 unfolding parts_read
 report_cons clock first [] some = absurd (omega (arith, some))

@@ -108,18 +108,19 @@ fields_back clock (item.Interruption channel start end value is_open) h =
 -- ---- from the fields to the item
 
 -- what was read of the first six
-record IsSpanRead (clock : Clock) (word channel start end from to : Text) (span : RowSpan) : Type 0 where
-  word_is : word ≡ kind_word span.kind
-  channel_is : channel ≡ decimal span.channel
-  start_is : start ≡ decimal span.start
-  end_is : end ≡ decimal span.end
-  from_is : from ≡ place_text clock span.start
-  to_is : to ≡ place_text clock span.end
-  of_kind : is_channel_of span.kind span.channel ≡ true
-  first : span.start ≤ MOST_SAMPLES
-  last : span.end ≤ MOST_SAMPLES
+pub record IsSpanRead (clock : Clock) (word channel start end from to : Text) (span : RowSpan) : Type 0 where
+  pub word_is : word ≡ kind_word span.kind
+  pub channel_is : channel ≡ decimal span.channel
+  pub start_is : start ≡ decimal span.start
+  pub end_is : end ≡ decimal span.end
+  pub from_is : from ≡ place_text clock span.start
+  pub to_is : to ≡ place_text clock span.end
+  pub of_kind : is_channel_of span.kind span.channel ≡ true
+  pub first : span.start ≤ MOST_SAMPLES
+  pub last : span.end ≤ MOST_SAMPLES
 
-span_is : (clock : Clock) (word channel start end from to : Text) (span : RowSpan) →
+-- from the fields to what they say
+pub span_is : (clock : Clock) (word channel start end from to : Text) (span : RowSpan) →
     span_read clock word channel start end from to ≡ Ok span →
     IsSpanRead clock word channel start end from to span
 unfolding span_read

@@ -2,7 +2,7 @@
 #![tactic(auto)]
 
 pub use fault::ReportFault;
-pub use laws::needs_no_quotes;
+pub use laws::{needs_no_quotes, reads_back};
 pub use reading::read_report;
 pub use rows::{header, row};
 pub use whole_report::report;
