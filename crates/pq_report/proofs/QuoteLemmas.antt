@@ -51,7 +51,7 @@ plain_row f g rest h = ap (λ text. text ++ 10 ∷ []) (
     ∙ plain_fields f (g ∷ rest) h.1)
 
 -- the header
-plain_names : AllByRecursion IsPlain header_fields
+pub plain_names : AllByRecursion IsPlain header_fields
 plain_names = (refl, (refl, (refl, (refl, (refl, (refl, (refl, (refl, (refl, (refl, tt))))))))))
 
 pub plain_header : csv_row header_fields ≡ header

@@ -1,12 +1,19 @@
-//! The text of a report: its header, the row of an item, and a whole report.
+//! The text of a report: its header, the row of an item, a whole report, and the items that a text reports.
 #![tactic(auto)]
 
-pub use laws::needs_no_quotes;
+pub use fault::ReportFault;
+pub use laws::{needs_no_quotes, reads_back};
+pub use reading::read_report;
 pub use rows::{header, row};
 pub use whole_report::report;
 
+mod cutting;
+mod fault;
 mod kind;
 mod laws;
 mod moments;
+mod reading;
+mod row_items;
 mod rows;
+mod values;
 mod whole_report;

@@ -2,7 +2,7 @@
 ghost use Rattle.std.specs.Prelude.{◌≡◌, IfOk, IfSome, map};
 ghost use Rattle.csv.specs.Writing.{default_writer, row_text};
 ghost use Rattle.pq_items.specs.ItemRange.{IsItemInRange, IsTickInRange};
-ghost use Rattle.pq_report.specs.ReportText.{csv_row, header, item_row, tick_text};
+ghost use Rattle.pq_report.specs.ReportText.{csv_row, header, header_fields, item_row, tick_text};
 ghost use Rattle.pq_time.specs.Time.{IsClock};
 
 use crate::kind::ItemKind;
@@ -18,10 +18,7 @@ use std::alloc::Global;
 pub fn header(alloc: Global) -> Result<Text, OutOfMemory>
     ensures { IfOk result (λ text. text ≡ header) }
 {
-    let names: [&[u8]; 10] = [
-        b"kind", b"channel", b"start", b"end", b"from", b"to", b"tick", b"value", b"count", b"mark",
-    ];
-    text_of(alloc, &names)
+    text_of(alloc, &field_names())
 }
 
 /// The row of an item.
@@ -52,6 +49,15 @@ pub fn row(alloc: Global, clock: &Clock, item: &Item) -> Result<Text, OutOfMemor
         kind.mark_word(item.has_mark()).as_bytes(),
     ];
     text_of(alloc, &fields)
+}
+
+// The names of the fields.
+pub(crate) fn field_names() -> [&'static [u8]; 10]
+    ensures { map (λ f. f.now) result ≡ header_fields }
+{
+    [
+        b"kind", b"channel", b"start", b"end", b"from", b"to", b"tick", b"value", b"count", b"mark",
+    ]
 }
 
 // The moment of a tick, a UTC second; empty where there is none.
