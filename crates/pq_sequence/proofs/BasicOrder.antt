@@ -1,6 +1,5 @@
 -- Basic intervals come in order: each stands to the one before it as their aggregation asks.
-use Rattle.std.proofs.Common.{◌≡◌, ◌⊎◌, ℕ, zero, suc, ◌+◌, ◌-◌, ◌<◌, ◌≤◌, ◌==◌, Bool, true, false, cond, List, [], ◌∷◌, length, map, filter, slice_index, ℤ, refl, sym, ◌∙◌, ap, subst, inl, inr, arith}
-use Rattle.std.specs.Bool.{⊤}
+use Rattle.std.proofs.Common.{◌≡◌, ℕ, zero, suc, ◌+◌, ◌-◌, ◌<◌, ◌≤◌, ◌==◌, Bool, true, false, cond, List, [], ◌∷◌, length, map, filter, slice_index, ℤ, refl, sym, ap, subst, inl, inr, arith}
 use Rattle.std.specs.List.{list_any}
 use Rattle.std.proofs.lemmas.Bool.{cases_lt}
 use Rattle.std.proofs.lemmas.Bool.Decides.{nat_tests}
@@ -9,7 +8,7 @@ use Rattle.aggregate.specs.BasicOrder.{BeginsAtFront, Follows, HasTickBetween}
 use Rattle.event_detect.specs.declared.event.Event.{Event}
 use Rattle.pq_base.specs.Recorded.{Recorded, sample_count}
 use Rattle.pq_sequence.specs.BasicInterval.{basic_runs, basic_span, begins_segment, cycles_of, fronts}
-use Rattle.pq_sequence.specs.MeasuredRecording.{basic_over, basics_of, basics_over, clock_of, recorded_places, tick_places}
+use Rattle.pq_sequence.specs.MeasuredRecording.{basic_over, basics_of, basics_over, clock_of, tick_places}
 use Rattle.pq_sequence.proofs.FrontLemmas.{RisesFrom, places_rise}
 use Rattle.pq_sequence.proofs.FrontOrder.{before_front, front_after, front_in, front_reaches, front_until, fronts_rise, in_fronts, zero_in}
 use Rattle.pq_sequence.proofs.NeighbourLaws.{IsIn, IsNext, Linked, LinkedFrom, any_in, contained, in_any, in_contained, in_mapped, linked_mapped, mapped_in, next_from}

@@ -1,5 +1,5 @@
 -- All items of a recording are in the range of a report.
-use Rattle.std.proofs.Common.{◌≡◌, ◌⊎◌, ℕ, zero, suc, ◌+◌, ◌*◌, ◌/◌, ◌^◌, ◌<◌, ◌≤◌, ◌==◌, Bool, true, false, cond, if◌then◌else◌, List, [], ◌∷◌, length, map, filter_map, find, zip, drop, take, slice_range, slice_index_or, All, ℤ, pos, neg_ℤ, ◌≤ℤ◌, Option, Some, None, IfSome, option_map, option_and_then, unwrap_or, slice_get, refl, subst, arith, inl, inr}
+use Rattle.std.proofs.Common.{◌≡◌, ◌⊎◌, ℕ, zero, suc, ◌+◌, ◌*◌, ◌^◌, ◌<◌, ◌≤◌, ◌==◌, Bool, true, false, cond, if◌then◌else◌, List, [], ◌∷◌, length, map, filter_map, find, zip, drop, slice_range, slice_index_or, All, ℤ, pos, Option, Some, None, IfSome, option_map, option_and_then, unwrap_or, slice_get, refl, subst, arith, inl, inr}
 use Rattle.std.specs.List.{cons_option}
 use Rattle.std.specs.Option.{option_map_or}
 use Rattle.std.proofs.lemmas.Int.{ints}
@@ -15,7 +15,7 @@ use Rattle.freq10s.specs.Frequency.{reading_of, readings}
 use Rattle.pq_base.specs.Recorded.{Recorded, IsRecording, sample_count, samples_at}
 use Rattle.pq_items.specs.declared.item.Item.{Item}
 use Rattle.pq_items.specs.ItemRange.{IsItemInRange, IsTickInRange}
-use Rattle.pq_sequence.specs.BasicInterval.{basic_span, cycles_of}
+use Rattle.pq_sequence.specs.BasicInterval.{cycles_of}
 use Rattle.pq_sequence.specs.MeasuredRecording.{basics_of, channel_count, clock_of, positions, readings_of, recorded_events, recorded_rule, reference_cycles, runs_of, shorts_of, tens_of, two_hours_of}
 use Rattle.pq_sequence.specs.SequentialResult.{all_items, basic_item, basic_items, event_item, event_items, for_each_channel, item_of_kind, items_under, number_of, reading_item, reading_items, short_item, ten_item, two_hour_item}
 use Rattle.pq_sequence.proofs.BasicLemmas.{numbers_lie}
@@ -30,10 +30,8 @@ use Rattle.pq_time.proofs.PlaceLaws.{passed_small}
 use Rattle.pq_time.proofs.TickLaws.{ticks_exact}
 use Rattle.pq_words.specs.declared.limits.TheConstants.{MOST_NUMBER, MOST_SAMPLES}
 use Rattle.pq_words.specs.First.{IsFirst, first_between}
-use Rattle.pq_words.specs.Steps.{numbers_below, steps_from}
+use Rattle.pq_words.specs.Steps.{steps_from}
 use Rattle.pq_words.proofs.FirstLaws.{first_between_is}
-use Rattle.ten_twelve.specs.Run.{runs}
-use Rattle.ten_twelve.specs.declared.span.Span.{Span}
 use Rattle.zero_cross.proofs.BoundaryLaws.{cycles_lie}
 
 -- ---- what is picked from a list

@@ -1,6 +1,6 @@
 -- The subject: what is measured of a recording, before it is put in order.
 -- Sections are those of IEC 61000-4-30:2015; "profile" marks a choice of this project.
-use Rattle.std.specs.Prelude.{ℕ, ℤ, Bool, List, length, map, slice_index, slice_range}
+use Rattle.std.specs.Prelude.{ℕ, ℤ, Bool, List, length, map, slice_range}
 use Rattle.aggregate.specs.declared.group.Group.{Group}
 use Rattle.aggregate.specs.Aggregation.{Basic, short_groups, ten_groups, two_hour_groups}
 use Rattle.event_detect.specs.declared.event.Event.{Event}

@@ -12,6 +12,7 @@ mod cycles;
 mod events;
 mod fronts;
 mod groups;
+mod intervals;
 mod items;
 mod laws;
 mod merged;

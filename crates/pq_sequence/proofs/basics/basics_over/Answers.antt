@@ -1,11 +1,11 @@
-use Rattle.std.proofs.Common.{◌≡◌, ◌<◌, ◌≤◌, ℕ, List, [], ◌∷◌, ◌++◌, All, get_or, length, map, slice_index, take, take_all, sym, ◌∙◌, ap, subst, arith}
+use Rattle.std.proofs.Common.{◌≡◌, ◌<◌, ◌≤◌, List, [], ◌∷◌, ◌++◌, All, get_or, map, slice_index, take, take_all, sym, ◌∙◌, ap, subst, arith}
 use Rattle.std.proofs.lemmas.List.{get_or-map, length-map, map-append, take_more}
 use Rattle.std.proofs.lemmas.List.Elements.{All-append, All-cons, All-nil}
 use Rattle.aggregate.specs.Aggregation.{Basic}
 use Rattle.pq_base.specs.Recorded.{sample_count}
 use Rattle.pq_sequence.specs.declared.basics.BasicInterval.{BasicInterval}
 use Rattle.pq_sequence.specs.BasicInterval.{basic_span, begins_segment}
-use Rattle.pq_sequence.specs.Measured.{AreBelow, IsMeasured, basic_seen, basics_seen, run_starts}
+use Rattle.pq_sequence.specs.Measured.{AreBelow, IsMeasured, basic_seen, run_starts}
 use Rattle.pq_sequence.specs.MeasuredRecording.{basic_over, basics_over, channel_count}
 use Rattle.pq_sequence.proofs.BasicLemmas.{starts_before}
 use Rattle.pq_sequence.proofs.WalkLemmas.{below_later}

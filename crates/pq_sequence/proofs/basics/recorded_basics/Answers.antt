@@ -1,4 +1,4 @@
-use Rattle.std.proofs.Common.{◌≡◌, ◌-◌, length, List, All, refl, sym, ◌∙◌, ap, subst}
+use Rattle.std.proofs.Common.{◌≡◌, ◌-◌, length, List, refl, sym, ◌∙◌, ap, subst}
 use Rattle.std.proofs.lemmas.List.Elements.{All-map}
 use Rattle.aggregate.specs.Aggregation.{Basic}
 use Rattle.aggregate.specs.BasicOrder.{BeginsAtFront, Follows, IsBasic}

@@ -1,6 +1,5 @@
-use Rattle.std.proofs.Common.{◌≡◌, ◌<◌, List, false, [], get_or, length, take, sym, subst, arith}
+use Rattle.std.proofs.Common.{◌<◌, false, [], length, take, sym, subst, arith}
 use Rattle.std.proofs.lemmas.List.{get_or-map, length-map}
-use Rattle.aggregate.specs.Aggregation.{Basic}
 use Rattle.aggregate.specs.Aggregator.{Completes, MayFollow, SeesMore}
 use Rattle.aggregate.proofs.WholeListLaws.{gives_groups}
 use Rattle.pq_sequence.specs.declared.basics.BasicInterval.{BasicInterval}

@@ -1,4 +1,4 @@
-use Rattle.std.proofs.Common.{◌∙◌, ◌++◌, ap, take, length, take_all, arith}
+use Rattle.std.proofs.Common.{◌∙◌, ◌++◌, ap, take_all, arith}
 use Rattle.std.specs.List.{flat_map}
 use Rattle.pq_sequence.proofs.ItemLemmas.{items_of_basic, items_of_basics}
 use Rattle.pq_sequence.proofs.items.push_basics.Goals as goal

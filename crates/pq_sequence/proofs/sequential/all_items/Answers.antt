@@ -2,7 +2,6 @@ use Rattle.std.proofs.Common.{◌≡◌, ◌∙◌, ◌<◌, List, length, All, 
 use Rattle.event_detect.specs.declared.event.Event.{Event}
 use Rattle.pq_items.specs.ItemRange.{IsItemInRange}
 use Rattle.pq_items.specs.declared.item.Item.{Item}
-use Rattle.pq_sequence.specs.MeasuredRecording.{recorded_events}
 use Rattle.pq_sequence.specs.SequentialResult.{all_items, items_under}
 use Rattle.pq_sequence.proofs.RangeLaws.{items_in_range}
 use Rattle.pq_sequence.proofs.ResultLaws.{channels_there}

@@ -1,6 +1,5 @@
-use Rattle.std.proofs.Common.{◌≡◌, [], ◌++◌, List, sym, ◌∙◌, ap, subst}
-use Rattle.pq_items.specs.declared.item.Item.{Item}
-use Rattle.pq_sequence.specs.Measured.{AreIntervals, intervals_seen}
+use Rattle.std.proofs.Common.{[], ◌++◌, List, sym, ◌∙◌, ap, subst}
+use Rattle.pq_sequence.specs.Measured.{intervals_seen}
 use Rattle.pq_sequence.specs.MeasuredRecording.{basics_of, readings_of, reference_cycles, shorts_of, tens_of, two_hours_of}
 use Rattle.pq_sequence.specs.SequentialResult.{basic_items, event_items, for_each_channel, items_under, reading_items, short_item, ten_item, two_hour_item}
 use Rattle.pq_sequence.specs.Touches.{AreReaches}
