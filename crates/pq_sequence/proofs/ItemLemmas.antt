@@ -6,7 +6,7 @@ use Rattle.event_detect.specs.declared.event.Event.{Event}
 use Rattle.pq_base.specs.Recorded.{Recorded}
 use Rattle.pq_items.specs.declared.item.Item.{Item}
 use Rattle.pq_sequence.specs.declared.basics.BasicInterval.{BasicInterval}
-use Rattle.pq_sequence.specs.declared.sequential.Intervals.{Intervals}
+use Rattle.pq_sequence.specs.declared.intervals.RecordedIntervals.{RecordedIntervals}
 use Rattle.pq_sequence.specs.Measured.{AreIntervals, basic_seen, basics_seen, intervals_seen}
 use Rattle.pq_sequence.specs.MeasuredRecording.{basics_of, channel_count, reference_cycles, shorts_of, tens_of, two_hours_of}
 use Rattle.pq_sequence.specs.SequentialResult.{basic_item, basic_items, channel_items, for_each_channel, short_item, ten_item, two_hour_item}
@@ -45,7 +45,7 @@ items_of_basics r (b ∷ bs) = ap (λ items. items_of_basic r b ++ items) (items
 -- ---- kind by kind
 
 -- intervals of each length, as items
-pub seen_intervals : (r : Recorded) (events : List Event) (found : Intervals) → AreIntervals r events found →
+pub seen_intervals : (r : Recorded) (events : List Event) (found : RecordedIntervals) → AreIntervals r events found →
     intervals_seen r found
     ≡ (let basics = basics_of r events (reference_cycles r) in
     let tens = tens_of r basics in

@@ -14,7 +14,7 @@ use Rattle.pq_items.specs.declared.item.Item.TheVariants as item
 use Rattle.pq_sequence.specs.declared.groups.Groups.{Groups}
 use Rattle.pq_sequence.specs.declared.items.Length.{Length}
 use Rattle.pq_sequence.specs.declared.items.Length.TheVariants.{Short, TenMinutes, TwoHours}
-use Rattle.pq_sequence.specs.declared.sequential.Intervals.{Intervals}
+use Rattle.pq_sequence.specs.declared.intervals.RecordedIntervals.{RecordedIntervals}
 use Rattle.pq_sequence.specs.declared.touches.Reach.{Reach}
 use Rattle.pq_sequence.specs.MeasuredRecording.{basic_over, basics_of, basics_over, channel_count, clock_of, reference_cycles}
 use Rattle.pq_sequence.specs.SequentialResult.{basic_items, for_each_channel, number_of, short_item, ten_item, two_hour_item}
@@ -84,7 +84,7 @@ AreMeasured r basics =
     AreBasics (clock_of r) (sample_count r) (channel_count r) (basics_seen (channel_count r) basics)
 
 -- the intervals of a recording that has these events
-pub record AreIntervals (r : Recorded) (events : List Event) (found : Intervals) : Type 0 where
+pub record AreIntervals (r : Recorded) (events : List Event) (found : RecordedIntervals) : Type 0 where
   pub basics : basics_seen (channel_count r) found.basics.items ≡ basics_of r events (reference_cycles r)
   pub groups : AreGroupsOf (clock_of r) (sample_count r) (channel_count r)
       (basics_of r events (reference_cycles r)) found.groups
@@ -102,7 +102,7 @@ abbrev pub group_item : Length → Recorded → Group → ℕ → Item
 group_item long r g position = item_of_length long (number_of r position) g (slice_index g.values position)
 
 -- intervals of each length as items, one a channel of each
-abbrev pub intervals_seen : Recorded → Intervals → List Item
+abbrev pub intervals_seen : Recorded → RecordedIntervals → List Item
 intervals_seen r found =
     basic_items r (basics_seen (channel_count r) found.basics.items)
     ++ for_each_channel r (short_item r) found.groups.shorts.items

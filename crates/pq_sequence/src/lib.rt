@@ -11,6 +11,7 @@ mod clock;
 mod cycles;
 mod fronts;
 mod groups;
+mod intervals;
 mod items;
 mod laws;
 mod readings;

@@ -1,22 +1,16 @@
 // The sequential result.
-ghost use Rattle.std.specs.Prelude.{◌<◌, length, All, IfOk, OnOk};
+ghost use Rattle.std.specs.Prelude.{◌<◌, length, All, OnOk};
 ghost use Rattle.event_detect.specs.Threshold.{IsInOrder};
-ghost use Rattle.pq_base.specs.Recorded.{IsRecording, sample_count};
+ghost use Rattle.pq_base.specs.Recorded.{IsRecording};
 ghost use Rattle.pq_items.specs.ItemRange.{IsItemInRange};
-ghost use Rattle.pq_sequence.specs.Lists.{Adds, Gives, GivesAll};
-ghost use Rattle.pq_sequence.specs.Measured.{AreIntervals, intervals_seen};
-ghost use Rattle.pq_sequence.specs.MeasuredRecording.{recorded_events as events_of_recording, reference_cycles as cycles_of_recording};
+ghost use Rattle.pq_sequence.specs.Lists.{Gives, GivesAll};
+ghost use Rattle.pq_sequence.specs.MeasuredRecording.{recorded_events as events_of_recording};
 ghost use Rattle.pq_sequence.specs.SequentialResult.{all_items as items_of_recording, items_under, sequential};
-ghost use Rattle.pq_sequence.specs.Touches.{AreReachesOfSome, ForEventsOf};
-ghost use Rattle.zero_cross.specs.Boundary.{AreBoundaries};
 
-use crate::basics::{BasicInterval, recorded_basics};
-use crate::clock::clock_of;
-use crate::cycles::{cycle_boundaries, recorded_rule};
-use crate::groups::{Groups, all_groups};
-use crate::items::{Length, push_basics, push_events, push_groups};
+use crate::intervals::{push_intervals, recorded_intervals};
+use crate::items::push_events;
 use crate::readings::push_readings;
-use crate::touches::{Reach, reaches};
+use crate::touches::reaches;
 use crate::windows::channel_windows;
 use event_detect::{Event, Limits};
 use pq_base::{OutOfMemory, Recording};
@@ -95,78 +89,4 @@ fn items_under(
     push_intervals(&mut items, recording, &intervals)?;
     push_events(&mut items, recording, events)?;
     Ok(items)
-}
-
-// The intervals of a recording.
-#[derive(Drop)]
-struct Intervals {
-    basics: Vec<BasicInterval>,
-    groups: Groups,
-}
-
-impl Intervals {
-    // How many items they are for so many channels.
-    fn items(&self, channels: u32) -> usize {
-        let Groups {
-            shorts,
-            tens,
-            two_hours,
-        } = &self.groups;
-        let groups = shorts
-            .len()
-            .saturating_add(tens.len())
-            .saturating_add(two_hours.len());
-        self.basics
-            .len()
-            .saturating_add(groups)
-            .saturating_mul(channels as usize)
-    }
-}
-
-// The basic intervals between the cycle boundaries of the reference channel, flagged by the reaches of
-// the recording's events, and what they are aggregated to.
-fn recorded_intervals(
-    alloc: Global,
-    recording: &Recording,
-    reaches: &[Reach],
-) -> Result<Intervals, OutOfMemory>
-    requires { AreReachesOfSome reaches.now }
-    ensures { IfOk result
-        (λ found. ForEventsOf reaches.now (λ events. AreIntervals recording.now events found)) }
-{
-    let boundaries = reference_cycles(alloc, recording)?;
-    let basics = recorded_basics(alloc, recording, &boundaries, reaches)?;
-    let groups = all_groups(
-        alloc,
-        clock_of(recording),
-        recording.len(),
-        recording.channels(),
-        &basics,
-    )?;
-    Ok(Intervals { basics, groups })
-}
-
-// The cycle boundaries of the reference channel.
-fn reference_cycles(alloc: Global, recording: &Recording) -> Result<Vec<u64>, AllocError>
-    ensures value { Gives result (cycles_of_recording recording.now) }
-    ensures within { IfOk result (λ found. AreBoundaries found.items (sample_count recording.now)) }
-{
-    let samples = recording.samples(recording.reference());
-    cycle_boundaries(alloc, samples, recorded_rule(recording))
-}
-
-// Adds intervals of each length, one item a channel of each.
-fn push_intervals(
-    items: &mut Vec<Item>,
-    recording: &Recording,
-    intervals: &Intervals,
-) -> Result<(), AllocError>
-    ensures { OnOk result
-        (Adds items.old items.new (intervals_seen recording.now intervals.now)) }
-{
-    let groups = &intervals.groups;
-    push_basics(items, recording, &intervals.basics)?;
-    push_groups(items, recording, Length::Short, &groups.shorts)?;
-    push_groups(items, recording, Length::TenMinutes, &groups.tens)?;
-    push_groups(items, recording, Length::TwoHours, &groups.two_hours)
 }

@@ -92,7 +92,7 @@ fn recording(
     milliseconds: i16,
     n: usize,
 ) -> Result<Recording, AllocError>
-    requires { n ≤ 10_000 }
+    requires { n ≤ 20_000 }
 {
     let samples = vec![in alloc; samples(alloc, signal, n)?]?;
     let numbers = vec![in alloc; 1u32]?;
@@ -282,7 +282,7 @@ fn worked_recordings(rt: HostRuntime) -> Result<(), Fail> {
         ),
     ];
     for (signal, milliseconds, n, wanted) in rows {
-        assert!(rt; n <= 10_000);
+        assert!(rt; n <= 20_000);
         let recording = recording(alloc, signal, milliseconds, n)?;
         let Ok(items) = sequence(alloc, &recording, &limits) else {
             return Err(Fail::from(AllocError));
@@ -295,6 +295,44 @@ fn worked_recordings(rt: HostRuntime) -> Result<(), Fail> {
                 want.end()
             );
         }
+    }
+    Ok(())
+}
+
+#[test]
+fn ten_seconds_of_frequency(rt: HostRuntime) -> Result<(), Fail> {
+    let alloc = rt.alloc();
+    let limits = usual(&rt);
+    // The signal, how many items it has, which of them is the first 150-cycle interval, its value, and
+    // whether it is flagged, as the one reading is.
+    let rows = [
+        (Signal::Sine, 53, 15, 229_805_362, false),
+        (Signal::Halved, 54, 16, 228_653_405, true),
+    ];
+    for (signal, count, first_short, value, flagged) in rows {
+        let recording = recording(alloc, signal, 9995, 12_006)?;
+        let Ok(items) = sequence(alloc, &recording, &limits) else {
+            return Err(Fail::from(AllocError));
+        };
+        let short = Item::Short {
+            channel: 1,
+            start: 24,
+            end: 3624,
+            value,
+            flagged,
+        };
+        let reading = Item::Frequency {
+            tick: 1_709_294_410,
+            start: 6,
+            end: 12_006,
+            cycles: 499,
+            microhertz: 50_000_000,
+            flagged,
+        };
+        assert_eq!(rt; items.len(), count);
+        assert!(rt; first_short < count && 0 < count);
+        assert!(rt; items[first_short].compare(&short) == Ordering::Equal);
+        assert!(rt; items[count - 1].compare(&reading) == Ordering::Equal);
     }
     Ok(())
 }

@@ -6,7 +6,7 @@ use Rattle.pq_sequence.specs.Measured.{basics_seen}
 use Rattle.pq_sequence.specs.MeasuredRecording.{channel_count}
 use Rattle.pq_sequence.specs.SequentialResult.{basic_items, for_each_channel, short_item, ten_item, two_hour_item}
 use Rattle.pq_sequence.proofs.ItemLemmas.{added}
-use Rattle.pq_sequence.proofs.sequential.push_intervals.Goals as goal
+use Rattle.pq_sequence.proofs.intervals.push_intervals.Goals as goal
 
 -- those of four lengths, one after another
 pub returns : goal.returns
