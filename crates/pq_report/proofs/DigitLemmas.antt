@@ -37,7 +37,7 @@ value_padded (suc k) n small =
     let less : n / 10 < 10 ^ k = omega (arith, small, power) in
     let front = value_padded k (n / 10) less in
     let last : digit_value (48 + n % 10) ≡ n % 10 = value_of_digit (48 + n % 10) (omega arith) (omega arith)
-        ∙ omega arith in
+    ∙ omega arith in
     let whole = digits_joined 0 (padded k (n / 10)) ((48 + n % 10) ∷ []) in
     omega (arith, front, last, whole)
 

@@ -217,7 +217,7 @@ item_is clock word channel start end from to tick value count mark span i s is =
     } in
     let whole = item_fields clock span.kind span.channel span.start span.end t v c m says in (
       ten_fields s.word_is s.channel_is s.start_is s.end_is s.from_is s.to_is t_is.0 v_is.0 c_is.0 m_is
-      ∙ whole.0 ∙ ap (row_fields clock) made,
+          ∙ whole.0 ∙ ap (row_fields clock) made,
       subst IsReportable made whole.1,
     )
 

@@ -9,3 +9,4 @@ mod FieldBackLemmas
 mod RowBackLemmas
 mod ItemBackLemmas
 mod ReadsBackLemmas
+mod StandardFacts

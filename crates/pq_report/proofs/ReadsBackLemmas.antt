@@ -1,13 +1,17 @@
 -- What is read of a report is its text, and its text is read.
-use Rattle.std.proofs.Common.{◌≡◌, ◌↔◌, ℕ, zero, suc, ◌+◌, ◌<◌, ◌≤◌, Bool, true, false, ◌&&◌, ◌==◌, nat_le, if◌then◌else◌, List, [], ◌∷◌, ◌++◌, All, flat_map, length, get_or, bytes_eq, Result, Ok, Err, refl, sym, ap, ◌∙◌, subst, arith, append_assoc, codes, drop}
+use Rattle.std.proofs.Common.{◌≡◌, ◌↔◌, ℕ, zero, suc, ◌+◌, ◌<◌, ◌≤◌, Bool, true, false, ◌&&◌, ◌==◌, nat_le, if◌then◌else◌, List, [], ◌∷◌, ◌++◌, All, flat_map, length, get_or, bytes_eq, Result, Ok, Err, refl, sym, ap, ◌∙◌, subst, arith, append_assoc, codes, drop, IfOk}
 use Rattle.std.proofs.lemmas.Bool.Decides.{nat_tests}
+use Rattle.std.proofs.lemmas.List.Elements.{All-from_recursion}
 use Rattle.std.proofs.lemmas.List.Folds.{list_all-append}
 use Rattle.std.proofs.lemmas.List.Splits.{slice_split_at, slice_split_none, join_with_byte-slice_split}
 use Rattle.std.proofs.lemmas.List.Sums.{AllPass-from_list_all}
 use Rattle.std.proofs.lemmas.Slice.Eq.{bytes_eq-Decides}
 use Rattle.std.specs.List.{AllByRecursion, list_all}
+use Rattle.std.specs.declared.alloc.Global.{Global}
+use Rattle.std.specs.declared.vec.Vec.{Vec}
+use Rattle.pq_items.specs.ItemRange.{IsItemInRange}
 use Rattle.pq_items.specs.declared.item.Item.{Item}
-use Rattle.pq_report.specs.ReportReading.{ReadsBack, are_ten, fields_read, header_read, in_row, names_read, parts_read, report_read, rows_read}
+use Rattle.pq_report.specs.ReportReading.{GivesItems, ReadsBack, are_ten, fields_read, header_read, in_row, names_read, parts_read, report_read, rows_read}
 use Rattle.pq_report.specs.ReportText.{IsReportable, header, header_fields, item_row, kind_of, kind_word, row_fields, row_of, rows_text}
 use Rattle.pq_report.specs.declared.fault.ReportFault.{ReportFault}
 use Rattle.pq_report.specs.declared.fault.ReportFault.TheVariants as fault
@@ -78,7 +82,7 @@ row_parts f fields rest h = ap (parted_at 10) (append_assoc (joined_by 44 (f ∷
 -- the row of an item is read as it is
 row_back : (clock : Clock) (n : ℕ) (i : Item) → IsReportable i →
     in_row n (fields_read clock (parted_at 44 (joined_by 44 (row_fields clock i)))) ≡ Ok i
-row_back clock n i h = ap (λ fields. in_row n (fields_read clock fields)) 
+row_back clock n i h = ap (λ fields. in_row n (fields_read clock fields))
     (parted_joined (kind_word (kind_of i)) (drop 1 (row_fields clock i)) (plain_item clock i h))
     ∙ ap (in_row n) (fields_back clock i h)
 
@@ -98,7 +102,7 @@ rows_back clock n (i ∷ items) h =
 
 header_back : in_row 1 (header_read (parted_at 44 (joined_by 44 header_fields))) ≡ Ok (tt {0})
 unfolding header_read
-header_back = ap (λ fields. in_row 1 (header_read fields)) 
+header_back = ap (λ fields. in_row 1 (header_read fields))
     (parted_joined (codes "kind") (drop 1 header_fields) plain_names)
 
 report_back : (clock : Clock) (items : List Item) → AllByRecursion IsReportable items →
@@ -142,9 +146,9 @@ rows_are clock n (first ∷ second ∷ others) items some is =
     let rest = rows_are clock (n + 1) (second ∷ others) more (omega arith) rows_ok in
     let made : (i ∷ more) ≡ items = cc in (
       ap (λ line. line ++ 10 ∷ joined_by 10 (second ∷ others)) row.0
-      ∙ ap (λ text. joined_by 44 (row_fields clock i) ++ 10 ∷ text) rest.0
-      ∙ sym (append_assoc (joined_by 44 (row_fields clock i)) (10 ∷ []) (flat_map (item_row clock) more))
-      ∙ ap (flat_map (item_row clock)) made,
+          ∙ ap (λ text. joined_by 44 (row_fields clock i) ++ 10 ∷ text) rest.0
+          ∙ sym (append_assoc (joined_by 44 (row_fields clock i)) (10 ∷ []) (flat_map (item_row clock) more))
+          ∙ ap (flat_map (item_row clock)) made,
       subst (AllByRecursion IsReportable) made (row.1, rest.1),
     )
 
@@ -198,10 +202,21 @@ parts_are clock (first ∷ second ∷ others) items is =
     let line = header_is first named header_ok in
     let rest = rows_are clock 2 (second ∷ others) items (omega arith) after in (
       ap (λ text. text ++ 10 ∷ joined_by 10 (second ∷ others)) line
-      ∙ ap (λ text. joined_by 44 header_fields ++ 10 ∷ text) rest.0
-      ∙ sym (append_assoc (joined_by 44 header_fields) (10 ∷ []) (flat_map (item_row clock) items)),
+          ∙ ap (λ text. joined_by 44 header_fields ++ 10 ∷ text) rest.0
+          ∙ sym (append_assoc (joined_by 44 header_fields) (10 ∷ []) (flat_map (item_row clock) items)),
       rest.1,
     )
+
+all_in_range : (items : List Item) → AllByRecursion IsReportable items → AllByRecursion IsItemInRange items
+all_in_range [] h = tt
+all_in_range (i ∷ items) h = (h.0.range, all_in_range items h.1)
+
+-- items that were read are in range
+pub given_within : (clock : Clock) (text : Text) (r : Result (Vec Item Global) ReportFault) →
+    GivesItems r (report_read clock text) → IfOk r (λ items. All IsItemInRange items.items)
+given_within clock text (Ok items) is = All-from_recursion IsItemInRange items.items
+    (all_in_range items.items (parts_are clock (parted_at 10 text) items.items is).1)
+given_within clock text (Err e) is = tt
 
 -- reading and writing are each other's way back
 pub reads_back : ReadsBack

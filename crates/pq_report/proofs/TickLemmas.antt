@@ -112,10 +112,10 @@ second_found field s range is =
       passes = (bytes_eq-Decides field (second_text (second_at k))).1 (is ∙ ap second_text (sym place.1));
       none_before =
           λ j low less yes.
-              let text : field ≡ second_text (second_at j) = (bytes_eq-Decides field (second_text (second_at j))).0 yes in
-              let same : second_at j ≡ s = same_second (second_at j) s
-              (second_in_range j (omega (arith, less, place.2))) range (sym text ∙ is) in
-              omega (arith, signed_arith, same, place.1, less);
+          let text : field ≡ second_text (second_at j) = (bytes_eq-Decides field (second_text (second_at j))).0 yes in
+          let same : second_at j ≡ s = same_second (second_at j) s
+          (second_in_range j (omega (arith, less, place.2))) range (sym text ∙ is) in
+          omega (arith, signed_arith, same, place.1, less);
     } in
     sym (ap (option_map second_at) (first_between_only test 0 18_000_000_001 (Some k) first)) ∙ ap Some place.1
 

@@ -15,5 +15,7 @@ mod moments;
 mod reading;
 mod row_items;
 mod rows;
+#[cfg(test)]
+mod tests;
 mod values;
 mod whole_report;

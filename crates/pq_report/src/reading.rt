@@ -1,6 +1,7 @@
 // The items that a text reports.
-ghost use Rattle.std.specs.Prelude.{◌≡◌, ◌+◌, ◌<◌, ◌≤◌, ◌^◌, length, map};
-ghost use Rattle.pq_report.specs.ReportReading.{GivesItems, field_list, fields_read, header_read, in_row, item_read, item_with, names_read, report_read, rows_read, span_read};
+ghost use Rattle.std.specs.Prelude.{◌≡◌, ◌≤◌, All, IfOk, length, map};
+ghost use Rattle.pq_items.specs.ItemRange.{IsItemInRange};
+ghost use Rattle.pq_report.specs.ReportReading.{GivesItems, fields_read, header_read, in_row, names_read, report_read, rows_read};
 ghost use Rattle.pq_time.specs.Time.{IsClock};
 ghost use Rattle.pq_words.specs.Text.{parted_at};
 
@@ -22,7 +23,8 @@ use std::alloc::Global;
 #[tactic(auto, unfolding(crate::specs::ReportReading::parts_read))]
 pub fn read_report(alloc: Global, clock: &Clock, bytes: &[u8]) -> Result<Vec<Item>, ReportFault>
     requires clock { IsClock clock.now }
-    ensures { GivesItems result (report_read clock.now bytes.now) }
+    ensures value { GivesItems result (report_read clock.now bytes.now) }
+    ensures within { IfOk result (λ items. All IsItemInRange items.items) }
 {
     let Some((header, rows)) = cut(bytes, b'\n') else {
         return Err(ReportFault::Field { row: 1, field: 0 });

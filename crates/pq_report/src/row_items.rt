@@ -1,6 +1,6 @@
 // The item of a row, by its ten fields.
 ghost use Rattle.std.specs.Prelude.{◌≡◌, ◌≤◌, IfSome};
-ghost use Rattle.pq_report.specs.ReportReading.{field_list, fields_read, item_read, item_with, span_read, tick_read, passing, is_channel_of, is_count_of, is_place, number_read};
+ghost use Rattle.pq_report.specs.ReportReading.{field_list, fields_read, is_channel_of, is_count_of, is_place, item_read, item_with, number_read, passing, span_read, tick_read};
 ghost use Rattle.pq_time.specs.Time.{IsClock};
 
 use crate::cutting::RowFields;

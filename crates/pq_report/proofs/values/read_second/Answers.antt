@@ -23,13 +23,13 @@ pub returns-then-ne : goal.returns-then-ne
 returns-then-ne c = sym (other_shown c.args.field.now c.shown_second.result
     c.in_ok-second.second c.shown_second.ensures.value c.in_ok-second.was
     (λ range text.
-        let fits : FitsSigned w64 c.in_ok-second.second = omega (arith, ints, range) in
-        let moment : c.tick_moment.result ≡ second_text c.in_ok-second.second = simp to_z-of_z at c.tick_moment.ensures in
-        let same : c.args.field.now ≡ c.as_slice.result.now = text ∙ sym moment ∙ sym c.as_slice.ensures in
-        let yes : bytes_eq c.args.field.now c.as_slice.result.now ≡ true =
-        (bytes_eq-Decides c.args.field.now c.as_slice.result.now).1 same in
-        let bad : true ≡ false = sym c.if-ne.true ∙ c.ne.ensures ∙ ap not yes in
-        absurd cc))
+    let fits : FitsSigned w64 c.in_ok-second.second = omega (arith, ints, range) in
+    let moment : c.tick_moment.result ≡ second_text c.in_ok-second.second = simp to_z-of_z at c.tick_moment.ensures in
+    let same : c.args.field.now ≡ c.as_slice.result.now = text ∙ sym moment ∙ sym c.as_slice.ensures in
+    let yes : bytes_eq c.args.field.now c.as_slice.result.now ≡ true =
+    (bytes_eq-Decides c.args.field.now c.as_slice.result.now).1 same in
+    let bad : true ≡ false = sym c.if-ne.true ∙ c.ne.ensures ∙ ap not yes in
+    absurd cc))
 
 pub returns : goal.returns
 returns c =
