@@ -118,8 +118,8 @@ two_channels unit a other_unit other_a = cfg_with (codes "2,2A,0D")
     ++ codes ",0,0,-32767,32767,1,1,P") ∷ []) (codes "1200,3")
 
 -- the refusals of the cfg, with no dat: the coefficient and the rate at their limits, a current, a fault
--- after its numbers of channels, a voltage beside a state or a current, two voltages, of which one may be past
--- the limit, and no channel
+-- after its numbers of channels, a voltage beside a state or a current, two voltages, of which one may be
+-- past the limit, and no channel
 pub cfg_verdicts : map (λ cfg. verdict course (Some ((codes "a.cfg", cfg) ∷ [])))
     (one_channel (codes "V") (codes "305.2") (codes "1200,3")
     ∷ one_channel (codes "V") (codes "305.1") (codes "1200,3")
