@@ -4,7 +4,7 @@ use Rattle.clap.proofs.OnLiterals.{clap_on_literals}
 use Rattle.clap.specs.Words.{App, IsAmong, Kinds, Row, fault_of, is_simple, is_simple_and_free, matches_of}
 use Rattle.clap.specs.declared.error.kind.ErrorKind.{ErrorKind}
 use Rattle.clap.specs.declared.error.kind.ErrorKind.TheVariants as kind
-use Rattle.command_words.specs.Simple.{check_app, found_unless, kind_fault, measuring_app, said_by}
+use Rattle.command_words.specs.Simple.{check_app, emit_app, found_unless, generate_app, kind_fault, measuring_app, said_by}
 use Rattle.command_words.specs.declared.command.WordsFault.TheVariants as fault
 use Rattle.pq_words.specs.Text.{Text}
 
@@ -13,6 +13,14 @@ use Rattle.pq_words.specs.Text.{Text}
 pub check_is_simple : is_simple_and_free check_app ≡ true
 unfolding check_app clap_on_literals
 check_is_simple = refl
+
+pub emit_is_simple : is_simple_and_free emit_app ≡ true
+unfolding emit_app clap_on_literals
+emit_is_simple = refl
+
+pub generate_is_simple : is_simple_and_free generate_app ≡ true
+unfolding generate_app clap_on_literals
+generate_is_simple = refl
 
 pub measuring_is_simple : is_simple_and_free measuring_app ≡ true
 unfolding measuring_app clap_on_literals

@@ -2,15 +2,17 @@
 use Rattle.std.proofs.Common.{◌≡◌, ◌++◌, [], ◌∷◌, map, refl, replicate, Some, None, Ok, Err}
 use Rattle.std.specs.Prelude.{codes}
 use Rattle.clap.proofs.OnLiterals.{clap_on_literals}
-use Rattle.command_words.specs.Commands.{Analyse, Check, Intervals, check_task, measured, measurement_of, named_task, task_of}
-use Rattle.command_words.specs.Simple.{check_app, measuring_app, said_by}
+use Rattle.command_words.specs.Commands.{Analyse, Check, Emit, Generate, Intervals, check_task, emit_task, generate_task, measured, measurement_of, named_task, task_of}
+use Rattle.command_words.specs.Simple.{check_app, emit_app, generate_app, measuring_app, said_by}
 use Rattle.command_words.specs.Values.{channels_of, settings_of}
+use Rattle.command_words.specs.declared.command.Part.TheVariants as part
 use Rattle.command_words.specs.declared.command.WordsFault.TheVariants as fault
 
 -- each command; the words of a measurement in any order, and behind `--`
 pub check_words : map task_of
     ((codes "check" ∷ codes "a.cfg" ∷ []) ∷ (codes "check" ∷ codes "--" ∷ codes "-" ∷ [])
-    ∷ (codes "check" ∷ []) ∷ (codes "check" ∷ codes "a.cfg" ∷ codes "b.cfg" ∷ []) ∷ (codes "check" ∷ codes "-h" ∷ []) ∷ [])
+    ∷ (codes "check" ∷ []) ∷ (codes "check" ∷ codes "a.cfg" ∷ codes "b.cfg" ∷ [])
+    ∷ (codes "check" ∷ codes "-h" ∷ []) ∷ [])
     ≡ Ok (Check (codes "a.cfg")) ∷ Ok (Check (codes "-")) ∷ replicate 3 (Err fault.NotUnderstood)
 unfolding named_task check_task said_by check_app clap_on_literals
 check_words = refl
@@ -41,6 +43,19 @@ pub usual_options : task_of
     }))
 unfolding named_task measured settings_of said_by measuring_app clap_on_literals
 usual_options = refl
+
+-- a seed is one to twenty digits, at most 2^64 - 1
+pub generated_words : map task_of
+    ((codes "emit" ∷ codes "cfg" ∷ codes "1" ∷ [])
+    ∷ (codes "emit" ∷ codes "dat" ∷ codes "18446744073709551615" ∷ [])
+    ∷ (codes "generate" ∷ codes "00000000000000000007" ∷ [])
+    ∷ (codes "emit" ∷ codes "hdr" ∷ codes "1" ∷ []) ∷ (codes "emit" ∷ codes "cfg" ∷ [])
+    ∷ (codes "generate" ∷ codes "18446744073709551616" ∷ [])
+    ∷ (codes "generate" ∷ codes "000000000000000000007" ∷ []) ∷ [])
+    ≡ Ok (Emit part.Cfg 1) ∷ Ok (Emit part.Dat 18446744073709551615) ∷ Ok (Generate 7)
+    ∷ replicate 4 (Err fault.NotUnderstood)
+unfolding named_task emit_task generate_task said_by emit_app generate_app clap_on_literals
+generated_words = refl
 
 -- no declared voltage, one twice, one too great, a threshold of 2001, an option of another name; an unknown
 -- command, and none

@@ -3,11 +3,12 @@ use Rattle.std.specs.Prelude.{ℕ, if◌then◌else◌, List, [], ◌∷◌, map
 use Rattle.std.specs.Str.{bytes_eq}
 use Rattle.std.specs.declared.alloc.Global.{Global}
 use Rattle.clap.specs.Words.{Row, first_of}
-use Rattle.command_words.specs.Simple.{check_app, measuring_app, said_by}
-use Rattle.command_words.specs.Values.{channel_of, channels_of, optional, settings_of, understood}
+use Rattle.command_words.specs.Simple.{check_app, emit_app, generate_app, measuring_app, said_by}
+use Rattle.command_words.specs.Values.{channel_of, channels_of, optional, part_of, seed_of, settings_of, understood}
 use Rattle.command_words.specs.declared.command.Command.{Command}
 use Rattle.command_words.specs.declared.command.Command.TheVariants as command
 use Rattle.command_words.specs.declared.command.Measuring.{Measuring}
+use Rattle.command_words.specs.declared.command.Part.{Part}
 use Rattle.command_words.specs.declared.command.WordsFault.{WordsFault}
 use Rattle.command_words.specs.declared.command.WordsFault.TheVariants as fault
 use Rattle.event_detect.specs.Threshold.{IsInRange}
@@ -28,6 +29,8 @@ pub data Task : Type 0 where
   Check : Text → Task
   Intervals : Measurement → Task
   Analyse : Measurement → Task
+  Emit : Part → ℕ → Task
+  Generate : ℕ → Task
 
 -- the same as they are held in memory
 abbrev pub measuring_view : Measuring → Measurement
@@ -43,6 +46,8 @@ abbrev pub command_view : Command → Task
 command_view (command.Check cfg) = Check cfg.now
 command_view (command.Intervals m) = Intervals (measuring_view m)
 command_view (command.Analyse m) = Analyse (measuring_view m)
+command_view (command.Emit part seed) = Emit part seed
+command_view (command.Generate seed) = Generate seed
 
 -- what the options and the positionals of a measurement say
 unfoldable pub measured : List Row → Result Measurement WordsFault
@@ -71,6 +76,22 @@ check_task words = do
   cfg ← understood (first_of (codes "cfg") rows)
   Ok (Check cfg)
 
+-- what the words after the name of `emit` say
+unfoldable pub emit_task : List Text → Result Task WordsFault
+emit_task words = do
+  rows ← said_by emit_app words
+  text ← understood (first_of (codes "part") rows)
+  part ← part_of text
+  seed ← seed_of rows
+  Ok (Emit part seed)
+
+-- what the words after the name of `generate` say
+unfoldable pub generate_task : List Text → Result Task WordsFault
+generate_task words = do
+  rows ← said_by generate_app words
+  seed ← seed_of rows
+  Ok (Generate seed)
+
 abbrev pub then_task : (Measurement → Task) → Result Measurement WordsFault → Result Task WordsFault
 then_task task (Ok m) = Ok (task m)
 then_task task (Err why) = Err why
@@ -81,7 +102,9 @@ named_task name words =
     if bytes_eq name (codes "check") then check_task words
     else (if bytes_eq name (codes "intervals") then then_task (λ m. Intervals m) (measurement_of words)
     else (if bytes_eq name (codes "analyse") then then_task (λ m. Analyse m) (measurement_of words)
-    else Err fault.NotUnderstood))
+    else (if bytes_eq name (codes "emit") then emit_task words
+    else (if bytes_eq name (codes "generate") then generate_task words
+    else Err fault.NotUnderstood))))
 
 -- the first word is the name of a command; any other words are not understood
 abbrev pub task_of : List Text → Result Task WordsFault
@@ -93,6 +116,8 @@ abbrev pub IsTask : Task → Type 0
 IsTask (Check cfg) = Unit {0}
 IsTask (Intervals m) = IsInRange m.settings
 IsTask (Analyse m) = IsInRange m.settings
+IsTask (Emit part seed) = Unit {0}
+IsTask (Generate seed) = Unit {0}
 
 -- the words, as their bytes
 abbrev pub words_view : List (String Global) → List Text

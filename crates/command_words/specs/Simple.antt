@@ -33,6 +33,14 @@ positional_rule name = record (new_rule name) { required = true; action = Some S
 unfoldable pub check_app : App
 check_app = with_rule bare_app (positional_rule (codes "cfg"))
 
+-- `PART K`
+unfoldable pub emit_app : App
+emit_app = with_rule (with_rule bare_app (positional_rule (codes "part"))) (positional_rule (codes "seed"))
+
+-- `K`
+unfoldable pub generate_app : App
+generate_app = with_rule bare_app (positional_rule (codes "seed"))
+
 -- options, of which the declared voltage is required, and `CFG DAT`
 unfoldable pub measuring_app : App
 measuring_app =

@@ -1,10 +1,14 @@
 -- The subject: the values of options (profile).
 use Rattle.std.specs.Prelude.{ℕ, ◌≤◌, ◌&&◌, nat_le, if◌then◌else◌, List, [], ◌∷◌, ◌++◌, Option, None, Some, option_and_then, Result, Ok, Err, codes}
 use Rattle.std.specs.Option.{ok_or}
+use Rattle.std.specs.Str.{bytes_eq}
 use Rattle.clap.specs.Words.{Row, first_of}
 use Rattle.command_words.specs.declared.channels.TheConstants.{MOST_CHANNEL}
+use Rattle.command_words.specs.declared.command.Part.{Part}
+use Rattle.command_words.specs.declared.command.Part.TheVariants as part
 use Rattle.command_words.specs.declared.command.WordsFault.{WordsFault}
 use Rattle.command_words.specs.declared.command.WordsFault.TheVariants as fault
+use Rattle.command_words.specs.declared.generated.TheConstants.{MOST_SEED}
 use Rattle.command_words.specs.declared.thresholds.TheConstants.{USUAL_DIP, USUAL_HYSTERESIS, USUAL_INTERRUPTION, USUAL_SWELL}
 use Rattle.event_detect.specs.declared.limits.Settings.{Settings}
 use Rattle.event_detect.specs.declared.limits.TheConstants.{MOST_THOUSANDTHS, MOST_UDIN}
@@ -51,6 +55,18 @@ channels_after so_far (text ∷ texts) = do
 -- one or more, parted by commas
 abbrev pub channels_of : Text → Result (List ℕ) WordsFault
 channels_of text = channels_after [] (parted_at 44 text)
+
+-- the file of a generated recording
+abbrev pub part_of : Text → Result Part WordsFault
+part_of text =
+    if bytes_eq text (codes "cfg") then Ok part.Cfg
+    else (if bytes_eq text (codes "dat") then Ok part.Dat else Err fault.NotUnderstood)
+
+-- the seed: one to twenty digits, at most 2^64 - 1
+abbrev pub seed_of : List Row → Result ℕ WordsFault
+seed_of rows = do
+  seed ← understood (first_of (codes "seed") rows)
+  number_between 20 0 MOST_SEED seed
 
 -- the settings: the declared voltage is one to ten digits, from 1 to 1,000,000,000 millivolts
 unfoldable pub settings_of : List Row → Result Settings WordsFault

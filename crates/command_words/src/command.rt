@@ -11,6 +11,17 @@ pub enum Command<'a> {
     Intervals(Measuring<'a>),
     /// The report of a recording, for the call that may have workers.
     Analyse(Measuring<'a>),
+    /// A file of a generated recording.
+    Emit { part: Part, seed: u64 },
+    /// The summary of a generated recording, for the call that may have workers.
+    Generate { seed: u64 },
+}
+
+/// A file of a generated recording.
+#[derive(Clone, Copy, Debug, PartialEq, Eq)]
+pub enum Part {
+    Cfg,
+    Dat,
 }
 
 /// What a recording is measured by, and the names of its files.

@@ -1,11 +1,12 @@
 //! The words of the program: the command that they say, and what it is to do.
 #![tactic(auto)]
 
-pub use command::{Command, Measuring, WordsFault};
+pub use command::{Command, Measuring, Part, WordsFault};
 pub use reading::read_words;
 
 mod channels;
 mod command;
+mod generated;
 mod measuring;
 mod number;
 mod reading;

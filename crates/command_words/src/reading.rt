@@ -5,6 +5,7 @@ ghost use Rattle.command_words.specs.declared.command.WordsFault.TheVariants as 
 ghost use Rattle.pq_words.specs.FirstFault.{GivesUnless};
 
 use crate::command::{Command, WordsFault};
+use crate::generated::{read_emit, read_generate};
 use crate::measuring::read_measuring;
 use crate::simple::{check_command, matches_of};
 use crate::values::required;
@@ -48,6 +49,12 @@ fn read_named<'a>(alloc: Global, name: &str, words: &'a [String]) -> Result<Comm
             Ok(measuring) => Ok(Command::Analyse(measuring)),
             Err(why) => Err(why),
         };
+    }
+    if name == "emit" {
+        return read_emit(alloc, words);
+    }
+    if name == "generate" {
+        return read_generate(alloc, words);
     }
     Err(WordsFault::NotUnderstood)
 }

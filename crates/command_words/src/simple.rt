@@ -2,7 +2,7 @@
 ghost use Rattle.std.specs.Prelude.{◌≡◌, IfOk, false, true};
 ghost use Rattle.clap.specs.Words.{app_of, found_of, is_simple_and_free, kind_of, rows_of, rule_of, with_rule};
 ghost use Rattle.command_words.specs.Commands.{words_view};
-ghost use Rattle.command_words.specs.Simple.{bare_app, check_app, kind_fault, measuring_app, option_rule, positional_rule, required, said_by};
+ghost use Rattle.command_words.specs.Simple.{bare_app, check_app, emit_app, generate_app, kind_fault, measuring_app, option_rule, positional_rule, required, said_by};
 ghost use Rattle.command_words.specs.declared.command.WordsFault.TheVariants as fault;
 ghost use Rattle.pq_words.specs.FirstFault.{GivesUnless};
 
@@ -41,6 +41,23 @@ pub(crate) fn check_command<'a>(alloc: Global) -> Result<Command<'a>, AllocError
     ensures { IfOk result (λ command. app_of command ≡ check_app) }
 {
     with_positional(alloc, bare(alloc), "cfg")
+}
+
+/// `PART K`.
+#[tactic(auto, unfolding(crate::specs::Simple::emit_app))]
+pub(crate) fn emit_command<'a>(alloc: Global) -> Result<Command<'a>, AllocError>
+    ensures { IfOk result (λ command. app_of command ≡ emit_app) }
+{
+    let command = with_positional(alloc, bare(alloc), "part")?;
+    with_positional(alloc, command, "seed")
+}
+
+/// `K`.
+#[tactic(auto, unfolding(crate::specs::Simple::generate_app))]
+pub(crate) fn generate_command<'a>(alloc: Global) -> Result<Command<'a>, AllocError>
+    ensures { IfOk result (λ command. app_of command ≡ generate_app) }
+{
+    with_positional(alloc, bare(alloc), "seed")
 }
 
 /// Options, and `CFG DAT`.
@@ -92,7 +109,8 @@ fn with_positional<'a>(
     command: Command<'a>,
     name: &'a str,
 ) -> Result<Command<'a>, AllocError>
-    ensures { IfOk result (λ more. app_of more ≡ with_rule (app_of command.entry) (positional_rule name.now)) }
+    ensures { IfOk result (λ more.
+        app_of more ≡ with_rule (app_of command.entry) (positional_rule name.now)) }
 {
     let positional = Arg::new(alloc, name).action(ArgAction::Set).required(true);
     command.arg(positional)

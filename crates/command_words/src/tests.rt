@@ -1,5 +1,5 @@
 // Lists of words: which are understood, and what they say.
-use crate::{Command, Measuring, WordsFault, read_words};
+use crate::{Command, Measuring, Part, WordsFault, read_words};
 use event_detect::Settings;
 use std::alloc::{AllocError, Global};
 use std::test::Fail;
@@ -227,6 +227,41 @@ fn names(rt: HostRuntime) -> Result<(), Fail> {
             _ => "",
         };
         assert_eq!(rt; said, cfg, "{words:?}");
+    }
+    for (name, words, said) in [
+        ("emit", "cfg 1", Some((Some(Part::Cfg), 1))),
+        (
+            "emit",
+            "dat 18446744073709551615",
+            Some((Some(Part::Dat), 18_446_744_073_709_551_615)),
+        ),
+        (
+            "emit",
+            "-- dat 00000000000000000002",
+            Some((Some(Part::Dat), 2)),
+        ),
+        ("generate", "0", Some((None, 0))),
+        ("generate", "-- 1", Some((None, 1))),
+        ("emit", "1 cfg", None),
+        ("emit", "cfg", None),
+        ("emit", "CFG 1", None),
+        ("emit", "cfg 1 2", None),
+        ("emit", "cfg 18446744073709551616", None),
+        ("emit", "cfg -1", None),
+        ("emit", "--part cfg 1", None),
+        ("generate", "", None),
+        ("generate", "1 2", None),
+        ("generate", "+1", None),
+        ("generate", "000000000000000000001", None),
+        ("generate", "--help", None),
+    ] {
+        let words = strings(alloc, name, words)?;
+        let found = match read_words(alloc, &words) {
+            Ok(Command::Emit { part, seed }) => Some((Some(part), seed)),
+            Ok(Command::Generate { seed }) => Some((None, seed)),
+            _ => None,
+        };
+        assert!(rt; found == said, "{words:?}");
     }
     let none = read_words(alloc, &[]);
     assert!(rt; matches!(none, Err(WordsFault::NotUnderstood)));

@@ -2,6 +2,8 @@
 use Rattle.std.proofs.Common.{◌≡◌, ℕ, [], ◌∷◌, refl, pos, true, false}
 use Rattle.std.specs.Fmt.{digits}
 use Rattle.std.specs.Prelude.{codes}
+use Rattle.aggregate.specs.Aggregation.{short_groups, ten_groups, two_hour_groups}
+use Rattle.freq10s.specs.Frequency.{readings}
 use Rattle.event_detect.specs.Flag.{is_touched}
 use Rattle.event_detect.specs.Threshold.{class_of, limits_of}
 use Rattle.event_detect.specs.declared.limits.Settings.{Settings}
@@ -81,7 +83,8 @@ pub two_intervals : report_text recorded (limits_of (usual_settings 230000))
     ≡ codes
     "kind,channel,start,end,from,to,tick,value,count,mark\nbasic,1,24,264,2024-03-01T12:00:01.020000000Z,2024-03-01T12:00:01.220000000Z,,229805362,10,clear\nbasic,1,264,504,2024-03-01T12:00:01.220000000Z,2024-03-01T12:00:01.420000000Z,,229805362,10,clear\n"
 unfolding report_text header item_row time_of printed_moment date_shown days_of_months sequential in_order
-    put_in_order items_under all_polyphase_events merged_windows conditions begins ends latest events extents
+    put_in_order items_under readings short_groups ten_groups two_hour_groups all_polyphase_events
+    merged_windows conditions begins ends latest events extents
     event_from event_over successors windows windows_over window_between
     class_of limits_of tick_places ticks place_of fronts front_of basic_runs runs is_touched cycle_boundaries
     boundaries first_boundary next_boundary rule_of first_between first_of sampled sine_count numbers_from

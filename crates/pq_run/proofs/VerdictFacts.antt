@@ -4,6 +4,8 @@ use Rattle.command_words.specs.Commands.{Analyse, Check, Intervals, Measurement}
 use Rattle.command_words.specs.declared.command.WordsFault.TheVariants as words_fault
 use Rattle.std.specs.Fmt.{digits}
 use Rattle.std.specs.Prelude.{codes, slice_set}
+use Rattle.aggregate.specs.Aggregation.{short_groups, ten_groups, two_hour_groups}
+use Rattle.freq10s.specs.Frequency.{readings}
 use Rattle.comtrade_cfg.proofs.TwoIntervalsCfg.{with_line_ends}
 use Rattle.comtrade_cfg.specs.CfgText.{analogue_fields, channel_lines, configuration_ahead, configuration_of, lines_behind, station_fields, status_fields}
 use Rattle.cfg_fields.specs.Fields.{channel_count, decimal_field, decimal_text, frequency_field, leap_field, number_field, position_field, rate_field, samples_field, text_field}
@@ -118,8 +120,8 @@ two_channels unit a other_unit other_a = cfg_with (codes "2,2A,0D")
     ++ codes ",0,0,-32767,32767,1,1,P") ∷ []) (codes "1200,3")
 
 -- the refusals of the cfg, with no dat: the coefficient and the rate at their limits, a current, a fault
--- after its numbers of channels, a voltage beside a state or a current, two voltages, of which one may be past
--- the limit, and no channel
+-- after its numbers of channels, a voltage beside a state or a current, two voltages, of which one may be
+-- past the limit, and no channel
 pub cfg_verdicts : map (λ cfg. verdict course (Some ((codes "a.cfg", cfg) ∷ [])))
     (one_channel (codes "V") (codes "305.2") (codes "1200,3")
     ∷ one_channel (codes "V") (codes "305.1") (codes "1200,3")
@@ -157,8 +159,8 @@ unfolding settings_limits dat_report selected_configuration selected_of samples_
     number_field position_field decimal_text decimal_field channel_count frequency_field rate_field
     samples_field leap_field station_fields analogue_fields status_fields configuration_of configuration_ahead
     lines_behind channel_lines decimal_of written_moment date_of clock_time_of days_from_civil day_count
-    days_of_years days_of_months report_text header sequential in_order items_under all_polyphase_events
-    merged_windows conditions begins ends latest events extents event_from
+    days_of_years days_of_months report_text header sequential in_order items_under readings short_groups
+    ten_groups two_hour_groups all_polyphase_events merged_windows conditions begins ends latest events extents event_from
     successors windows windows_over tick_places ticks place_of time_of fronts front_of basic_runs runs
     cycle_boundaries boundaries first_boundary rule_of first_between first_of numbers_from steps_from
 empty_recording = refl

@@ -2,19 +2,22 @@
 use Rattle.std.specs.Prelude.{Bool, false, if◌then◌else◌, List, [], ◌∷◌, Result, Ok, Err, String, codes}
 use Rattle.std.specs.Str.{bytes_eq}
 use Rattle.std.specs.declared.alloc.Global.{Global}
-use Rattle.command_words.specs.Commands.{Task, Check, Intervals, Analyse, task_of, words_view}
+use Rattle.command_words.specs.Commands.{Task, Check, Intervals, Analyse, Emit, task_of, words_view}
 use Rattle.command_words.specs.declared.command.WordsFault.{WordsFault}
 use Rattle.pq_course.specs.Verdict.{Refused, Course, Ends}
 use Rattle.pq_run.specs.Check.{check_course}
+use Rattle.pq_run.specs.Emitting.{emit_course}
 use Rattle.pq_run.specs.Measuring.{measuring_course}
 use Rattle.pq_words.specs.Text.{Text}
 use Rattle.status_text.specs.declared.status.Status.{Status}
 use Rattle.status_text.specs.declared.status.Status.TheVariants as status
 
--- the course of `still`: its commands are `check` and `intervals`, and any other words are refused as usage
+-- the course of `still`: its commands are `check`, `intervals` and `emit`, and any other words are refused as
+-- usage
 abbrev pub still_task_course : Result Task WordsFault → Course Status
 still_task_course (Ok (Check cfg)) = check_course cfg
 still_task_course (Ok (Intervals m)) = measuring_course m
+still_task_course (Ok (Emit part seed)) = emit_course part seed
 still_task_course _ = Ends (Refused status.Usage)
 
 abbrev pub still_course : List (String Global) → Course Status

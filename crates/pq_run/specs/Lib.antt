@@ -1,5 +1,6 @@
 pub mod Check
 pub mod Commands
+pub mod Emitting
 pub mod Measuring
 pub mod Program
 pub mod SettingsLimits

@@ -8,6 +8,7 @@ pub use streams::Streams;
 pub use top_call::{analyse, still};
 
 mod check;
+mod emitting;
 mod measuring;
 mod program;
 mod selected_cfg;

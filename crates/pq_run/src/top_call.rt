@@ -4,6 +4,7 @@ ghost use Rattle.pq_course.specs.TopCall.{IsTopCall, call_of, reading_of};
 ghost use Rattle.pq_run.specs.Commands.{analyse_course, still_course};
 
 use crate::check::check;
+use crate::emitting::emitted_text;
 use crate::measuring::measured_report;
 use command_words::{Command, WordsFault, read_words};
 use lane_workers::Gate;
@@ -37,7 +38,7 @@ pub fn analyse<R: Threads + Wait + Sync, K: Shelf, O: Sink, G: Gate + Sync>(
     }
 }
 
-/// Runs the command `check` or `intervals` that the words say. It always returns, and promises what `analyse`
+/// Runs the command `check`, `intervals` or `emit` that the words say. It always returns, and promises what `analyse`
 /// does.
 pub fn still<K: Shelf, O: Sink>(
     alloc: Global,
@@ -62,6 +63,8 @@ fn analysed_text<K: Shelf>(alloc: Global, words: &[String], shelf: &mut K) -> Re
         Ok(Command::Analyse(measuring)) => measured_report(alloc, &measuring, shelf),
         Ok(Command::Check { .. }) => Err(Status::Usage),
         Ok(Command::Intervals(_)) => Err(Status::Usage),
+        Ok(Command::Emit { .. }) => Err(Status::Usage),
+        Ok(Command::Generate { .. }) => Err(Status::Usage),
         Err(WordsFault::NotUnderstood) => Err(Status::Usage),
         Err(WordsFault::OutOfMemory) => Err(Status::OutOfMemory),
     }
@@ -74,7 +77,9 @@ fn still_text<K: Shelf>(alloc: Global, words: &[String], shelf: &mut K) -> Resul
     match read_words(alloc, words) {
         Ok(Command::Check { cfg }) => check(alloc, cfg, shelf),
         Ok(Command::Intervals(measuring)) => measured_report(alloc, &measuring, shelf),
+        Ok(Command::Emit { part, seed }) => emitted_text(alloc, part, seed),
         Ok(Command::Analyse(_)) => Err(Status::Usage),
+        Ok(Command::Generate { .. }) => Err(Status::Usage),
         Err(WordsFault::NotUnderstood) => Err(Status::Usage),
         Err(WordsFault::OutOfMemory) => Err(Status::OutOfMemory),
     }

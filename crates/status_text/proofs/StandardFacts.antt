@@ -42,6 +42,7 @@ sentences = refl
 pub exit_codes : map code_of
     (status.Done ∷ status.Usage ∷ status.CfgFault 2 0 ∷ status.Unsupported unsupported.Revision 0
     ∷ status.Limit quantity.DatBytes 0 ∷ status.Selection 0 ∷ status.BadLimits
-    ∷ status.DatFault (fault.Long 1) ∷ status.ReadFault 1 ∷ status.WriteFault 1 ∷ status.OutOfMemory ∷ status.NoFile 1 ∷ [])
+    ∷ status.DatFault (fault.Long 1) ∷ status.ReadFault 1 ∷ status.WriteFault 1 ∷ status.OutOfMemory
+    ∷ status.NoFile 1 ∷ [])
     ≡ 0 ∷ 1 ∷ 2 ∷ 3 ∷ 4 ∷ 5 ∷ 6 ∷ 7 ∷ 8 ∷ 9 ∷ 11 ∷ 14 ∷ []
 exit_codes = refl

@@ -10,6 +10,8 @@ mod configurations;
 #[cfg(test)]
 mod dats;
 #[cfg(test)]
+mod emitted;
+#[cfg(test)]
 mod intervals;
 #[cfg(test)]
 mod options;

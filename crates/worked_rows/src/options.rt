@@ -40,7 +40,13 @@ fn refused_words_and_settings(rt: HostRuntime) -> Result<(), Fail> {
         ("--dip", "2001", Status::Usage),
     ] {
         let words = [
-            "intervals", option, value, "a.cfg", "--udin", "230000", "a.dat",
+            "intervals",
+            option,
+            value,
+            "a.cfg",
+            "--udin",
+            "230000",
+            "a.dat",
         ];
         let ran = run(alloc, &words, Some(&cfg), Some(&bytes), WHOLE)?;
         let text = if status == Status::Done { TWO_ROWS } else { "" };

@@ -14,7 +14,8 @@ pub returns : goal.returns
 unfolding measuring_app
 returns c =
     let voltage : rule_of c.required.result ≡ required (option_rule (codes "udin")) = search rules in
-    let first = c.in_ok-command.ensures.shape (ap (λ (a : Arg). a.global) c.required.ensures ∙ c.option.ensures.own)
+    let first =
+    c.in_ok-command.ensures.shape (ap (λ (a : Arg). a.global) c.required.ensures ∙ c.option.ensures.own)
     ∙ ap₂ with_rule c.bare.ensures voltage in
     let to_channels = c.in_ok-command-2.ensures ∙ ap (with_one (codes "channels")) first in
     let to_reference = c.in_ok-command-3.ensures ∙ ap (with_one (codes "reference")) to_channels in

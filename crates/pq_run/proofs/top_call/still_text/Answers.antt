@@ -5,6 +5,8 @@ use Rattle.command_words.specs.declared.command.WordsFault.{WordsFault}
 use Rattle.pq_course.proofs.ReadingLemmas.{out_of_memory, quiet, refused}
 use Rattle.pq_course.specs.Parts.{IsRead}
 use Rattle.pq_course.specs.TopCall.{Reading, reading_of}
+use Rattle.pq_run.proofs.MeasuringLemmas.{judged_text}
+use Rattle.pq_run.specs.Emitting.{emitted_text}
 use Rattle.pq_run.specs.Commands.{still_course, still_task_course}
 use Rattle.status_text.specs.declared.status.Status.TheVariants as status
 use Rattle.pq_run.proofs.top_call.still_text.Goals as goal
@@ -25,6 +27,15 @@ returns-in-Ok-Intervals g c =
     (ap (λ (x : Command). Ok (command_view x)) (sym c.in-Ok-Intervals.field-0-is)
     ∙ sym c.in-Ok-Intervals.ensures.value) c.measured_report.ensures
 
+pub returns-in-Ok-Emit : goal.returns-in-Ok-Emit
+returns-in-Ok-Emit g c =
+    let e = c.in-Ok-Emit in
+    let r : Reading = reading_of g.K.Shelf c.args.shelf.now c.args.shelf.now in
+    subst (λ (task : Result Task WordsFault). IsRead (still_task_course task) r c.emitted_text.result)
+    (ap (λ (x : Command). Ok (command_view x)) (sym e.field-0-is) ∙ sym e.ensures.value)
+    (judged_text (Ok (emitted_text e.part e.seed)) c.emitted_text.result r c.emitted_text.ensures.value
+    c.emitted_text.ensures.refuses (quiet g.K.Shelf c.args.shelf.now))
+
 -- it is one of the other call
 pub returns-in-Ok-Analyse : goal.returns-in-Ok-Analyse
 returns-in-Ok-Analyse g c =
@@ -32,6 +43,14 @@ returns-in-Ok-Analyse g c =
     subst (λ (task : Result Task WordsFault). IsRead (still_task_course task) r (Err status.Usage))
     (ap (λ (x : Command). Ok (command_view x)) (sym c.in-Ok-Analyse.field-0-is)
     ∙ sym c.in-Ok-Analyse.ensures.value)
+    (refused status.Usage r tt (quiet g.K.Shelf c.args.shelf.now))
+
+pub returns-in-Ok-Generate : goal.returns-in-Ok-Generate
+returns-in-Ok-Generate g c =
+    let r : Reading = reading_of g.K.Shelf c.args.shelf.now c.args.shelf.now in
+    subst (λ (task : Result Task WordsFault). IsRead (still_task_course task) r (Err status.Usage))
+    (ap (λ (x : Command). Ok (command_view x)) (sym c.in-Ok-Generate.field-0-is)
+    ∙ sym c.in-Ok-Generate.ensures.value)
     (refused status.Usage r tt (quiet g.K.Shelf c.args.shelf.now))
 
 -- there is no memory for what they say
