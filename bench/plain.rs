@@ -214,18 +214,105 @@ impl Clock {
         passed.div_ceil(1_000_000_000_000_000).min(n as u128) as usize
     }
 
-    fn tick_places(&self, n: usize) -> Vec<usize> {
-        let period = 600_000_000_000;
-        let first = -(-self.t0).div_euclid(period);
-        let last = self.time_of(n).div_euclid(period);
-        (first..=last).map(|k| self.place_of(k * period, n)).collect()
+    // The ticks of a period in seconds, with their places.
+    fn ticks(&self, n: usize, period: i64) -> Vec<(i64, usize)> {
+        let nanoseconds = period * 1_000_000_000;
+        let first = -(-self.t0).div_euclid(nanoseconds);
+        let last = self.time_of(n).div_euclid(nanoseconds);
+        (first..=last).map(|k| (k * period, self.place_of(k * nanoseconds, n))).collect()
     }
 }
 
-// Runs of ten cycles from each front on, each completed.
-fn runs(places: &[usize], ticks: &[usize]) -> Vec<(usize, usize)> {
+// A reading: its tick, its span, cycles and microhertz.
+type Reading = (i64, usize, usize, u64, u64);
+
+fn readings(clock: &Clock, n: usize, places: &[usize]) -> Vec<Reading> {
+    let ticks = clock.ticks(n, 10);
+    let mut found = Vec::new();
+    for pair in ticks.windows(2) {
+        let (tick, p, q) = (pair[0].0, pair[0].1, pair[1].1);
+        let from = places.partition_point(|place| *place < p);
+        let until = places.partition_point(|place| *place <= q);
+        if from + 2 <= until {
+            let cycles = (until - from - 1) as u64;
+            let samples = (places[until - 1] - places[from]) as u64;
+            found.push((tick, p, q, cycles, cycles * clock.rate / samples));
+        }
+    }
+    found
+}
+
+// A basic interval or a group of them: whether it is the first after a tick, its span, its values and its flag.
+struct Part {
+    front: bool,
+    span: (usize, usize),
+    values: Vec<u64>,
+    flagged: bool,
+}
+
+// A group as a part, with its tick and how many intervals it has.
+type Group = (Option<i64>, usize, Part);
+
+fn group(tick: Option<i64>, parts: &[&Part]) -> Group {
+    let root = |channel: usize| {
+        let sum: u128 = parts.iter().map(|part| u128::from(part.values[channel]).pow(2)).sum();
+        isqrt(sum / parts.len() as u128)
+    };
+    let part = Part {
+        front: false,
+        span: (parts[0].span.0, parts[parts.len() - 1].span.1),
+        values: (0..parts[0].values.len()).map(root).collect(),
+        flagged: parts.iter().any(|part| part.flagged),
+    };
+    (tick, parts.len(), part)
+}
+
+// Fifteen basic intervals each, begun anew at each front.
+fn shorts(basics: &[Part]) -> Vec<Group> {
+    let fronts: Vec<usize> = (0..basics.len()).filter(|i| basics[*i].front).collect();
+    let mut found = Vec::new();
+    for (k, front) in fronts.iter().enumerate() {
+        let next = fronts.get(k + 1).copied().unwrap_or(basics.len());
+        let mut start = *front;
+        while start < next && start + 15 <= basics.len() {
+            found.push(group(None, &basics[start..start + 15].iter().collect::<Vec<&Part>>()));
+            start += 15;
+        }
+    }
+    found
+}
+
+// The basic intervals of each tick's segment, where it reaches the next tick.
+fn tens(clock: &Clock, n: usize, basics: &[Part]) -> Vec<Group> {
+    let mut found = Vec::new();
+    for pair in clock.ticks(n, 600).windows(2) {
+        let Some(first) = basics.iter().position(|b| b.front && b.span.0 >= pair[0].1) else { continue };
+        let after = basics[first + 1..].iter().position(|b| b.front).map_or(basics.len(), |i| first + 1 + i);
+        let segment: Vec<&Part> = basics[first..after].iter().collect();
+        if segment.iter().any(|b| b.span.0 < pair[1].1 && pair[1].1 <= b.span.1) {
+            found.push(group(Some(pair[0].0), &segment));
+        }
+    }
+    found
+}
+
+fn two_hours(clock: &Clock, n: usize, tens: &[Group]) -> Vec<Group> {
+    let mut found = Vec::new();
+    for (tick, _) in clock.ticks(n, 7200) {
+        let twelve: Vec<&Part> = (0..12)
+            .filter_map(|i| tens.iter().find(|ten| ten.0 == Some(tick + 600 * i)).map(|ten| &ten.2))
+            .collect();
+        if twelve.len() == 12 {
+            found.push(group(Some(tick), &twelve));
+        }
+    }
+    found
+}
+
+// Runs of ten cycles from each front on, each completed, and whether it begins at a front.
+fn runs(places: &[usize], ticks: &[(i64, usize)]) -> Vec<(usize, usize, bool)> {
     let mut fronts = vec![0];
-    fronts.extend(ticks.iter().map(|tick| places.partition_point(|place| place < tick)).filter(|j| *j < places.len()));
+    fronts.extend(ticks.iter().map(|tick| places.partition_point(|place| *place < tick.1)).filter(|j| *j < places.len()));
     fronts.dedup();
     let cycles = places.len().saturating_sub(1);
     let mut found = Vec::new();
@@ -233,7 +320,7 @@ fn runs(places: &[usize], ticks: &[usize]) -> Vec<(usize, usize)> {
         let next = fronts.get(k + 1).copied().unwrap_or(cycles);
         let mut start = *front;
         while start < next && start + 10 <= cycles {
-            found.push((start, start + 10));
+            found.push((start, start + 10, start == *front));
             start += 10;
         }
     }
@@ -284,10 +371,32 @@ fn samples(coefficients: &[(i128, i128)], n: usize, dat: &[u8]) -> Result<Vec<Ve
     Ok(samples)
 }
 
-fn row(clock: &Clock, kind: &str, channel: usize, span: (usize, usize), value: u64, count: u64, mark: &str) -> String {
-    let (start, end) = span;
+// What a row says besides its channel: kind, span, tick and count.
+#[derive(Clone, Copy)]
+struct Row<'a> {
+    kind: &'a str,
+    span: (usize, usize),
+    tick: Option<i64>,
+    count: u64,
+}
+
+fn row(clock: &Clock, row: Row, channel: usize, value: u64, mark: &str) -> String {
+    let Row { kind, span: (start, end), tick, count } = row;
     let (from, to) = (printed(clock.time_of(start)), printed(clock.time_of(end)));
-    format!("{kind},{},{start},{end},{from},{to},,{value},{count},{mark}\n", channel + 1)
+    let tick = tick.map_or(String::new(), |second| printed(second * 1_000_000_000));
+    format!("{kind},{channel},{start},{end},{from},{to},{tick},{value},{count},{mark}\n")
+}
+
+fn word(flagged: bool) -> &'static str {
+    if flagged { "flagged" } else { "clear" }
+}
+
+// Adds the items of an interval, one a channel.
+fn push_part(items: &mut Vec<Item>, clock: &Clock, rank: u8, says: Row, part: &Part) {
+    for (channel, value) in part.values.iter().enumerate() {
+        let text = row(clock, says, channel + 1, *value, word(part.flagged));
+        items.push((part.span.1, rank, part.span.0, channel + 1, text));
+    }
 }
 
 fn main() {
@@ -312,19 +421,33 @@ fn main() {
     let found = events(&windows(&channels, &rule), count, udin, n);
     let places = cycle_boundaries(&channels[0], &rule);
     let reaches = reaches(found.iter().flatten());
+    let basics: Vec<Part> = runs(&places, &clock.ticks(n, 600))
+        .into_iter()
+        .map(|(first, last, front)| {
+            let span = (places[first], places[last]);
+            let values = channels.iter().map(|s| rms(&s[span.0..span.1])).collect();
+            Part { front, span, values, flagged: is_touched(&reaches, span.0, span.1) }
+        })
+        .collect();
+    let tens = tens(&clock, n, &basics);
     let mut items: Vec<Item> = Vec::new();
-    for (first, last) in runs(&places, &clock.tick_places(n)) {
-        let (start, end) = (places[first], places[last]);
-        let mark = if is_touched(&reaches, start, end) { "flagged" } else { "clear" };
-        for (channel, s) in channels.iter().enumerate() {
-            let row = row(&clock, "basic", channel, (start, end), rms(&s[start..end]), 10, mark);
-            items.push((end, 1, start, channel, row));
+    for (tick, start, end, cycles, microhertz) in readings(&clock, n, &places) {
+        let says = Row { kind: "freq", span: (start, end), tick: Some(tick), count: cycles };
+        items.push((end, 0, start, 0, row(&clock, says, 0, microhertz, word(is_touched(&reaches, start, end)))));
+    }
+    for part in &basics {
+        push_part(&mut items, &clock, 1, Row { kind: "basic", span: part.span, tick: None, count: 10 }, part);
+    }
+    for (kind, rank, groups) in [("short", 2, &shorts(&basics)), ("ten", 3, &tens), ("two", 4, &two_hours(&clock, n, &tens))] {
+        for (tick, count, part) in groups {
+            push_part(&mut items, &clock, rank, Row { kind, span: part.span, tick: *tick, count: *count as u64 }, part);
         }
     }
     for (kind, &(name, rank)) in [("dip", 5u8), ("swell", 6), ("interruption", 7)].iter().enumerate() {
         for &(start, end, channel, value, open) in &found[kind] {
-            let mark = if open { "open" } else { "closed" };
-            items.push((end, rank, start, channel, row(&clock, name, channel, (start, end), value, 0, mark)));
+            let says = Row { kind: name, span: (start, end), tick: None, count: 0 };
+            let text = row(&clock, says, channel + 1, value, if open { "open" } else { "closed" });
+            items.push((end, rank, start, channel + 1, text));
         }
     }
     items.sort_unstable();

@@ -1,15 +1,15 @@
 -- What the machines of an aggregator hold together agrees with what it was fed, and goes on to.
-use Rattle.std.proofs.Common.{◌≡◌, ℕ, List, [], ◌∷◌, ◌++◌, Option, Some, None, option_to_list, All, refl, sym, ◌∙◌, ap, subst}
+use Rattle.std.proofs.Common.{◌≡◌, ℕ, List, [], ◌∷◌, ◌++◌, Option, Some, None, option_to_list, refl, sym, ◌∙◌, ap, subst}
 use Rattle.std.proofs.lemmas.List.{append-nil}
 use Rattle.std.proofs.lemmas.List.Elements.{All-pop}
 use Rattle.aggregate.specs.declared.group.Group.{Group}
 use Rattle.aggregate.specs.declared.group.Out.{Out}
 use Rattle.aggregate.specs.Aggregation.{Basic, short_groups, ten_groups, two_hour_groups}
-use Rattle.aggregate.specs.Aggregator.{AggregatorView, Completes, CompletesTens, HasSeen, IsAggregator, MayFollow, MayFollowTens, SeesMore, SeesMoreTens, aggregator_view}
+use Rattle.aggregate.specs.Aggregator.{Completes, CompletesTens, IsAggregator, MayFollow, MayFollowTens, SeesMore, SeesMoreTens, aggregator_view}
 use Rattle.aggregate.specs.BasicOrder.{AreBasics, IsBasic}
-use Rattle.aggregate.specs.ShortSums.{ShortView, Completes as CompletesShort, HasSeen as HasSeenShort, SeesMore as SeesMoreShort}
+use Rattle.aggregate.specs.ShortSums.{ShortView, Completes as CompletesShort, SeesMore as SeesMoreShort}
 use Rattle.aggregate.specs.TenSum.{TenView, Completes as CompletesTen, HasSeen as HasSeenBasics, KeepsSetting as KeepsSettingOfBasics, SeesMore as SeesMoreBasics}
-use Rattle.aggregate.specs.TwoHourSum.{AreTens, TwoHourView, Completes as CompletesTwo, HasSeen as HasSeenTens, MayFollow as MayFollowTwo, SeesMore as SeesMoreTwo}
+use Rattle.aggregate.specs.TwoHourSum.{AreTens, TwoHourView, HasSeen as HasSeenTens}
 use Rattle.aggregate.proofs.TensLaws.{tens_in_order}
 use Rattle.pq_time.specs.declared.clock.Clock.{Clock}
 

@@ -111,7 +111,8 @@ any_mapped : {X : Type 0} (t : X → Bool) (f : ℕ → X) (xs : List ℕ) → l
 any_mapped t f [] = refl
 any_mapped t f (x ∷ xs) = ap (λ b. t (f x) || b) (any_mapped t f xs)
 
-none_begin : (channels k : ℕ) → list_any (λ (r : RecentView). r.begins) (replicate k (none_yet channels)) ≡ false
+none_begin : (channels k : ℕ) → list_any (λ (r : RecentView). r.begins) (replicate k (none_yet channels))
+    ≡ false
 none_begin channels zero = refl
 none_begin channels (suc k) = none_begin channels k
 
@@ -327,10 +328,12 @@ short_push channels fed b =
           let none : length after + 1 - 15 ≡ 0 = omega (arith, longer, early) in
           let before : n + 1 - 15 ≡ 0 = omega (arith, early) in
           let more : 14 - n ≡ suc (13 - n) = omega (arith, early) in
-          let kept = latest_early channels fed n refl (omega (arith, early)) ∙ ap (λ k. kept_from channels fed k 0 n) more in
+          let kept = latest_early channels fed n refl (omega (arith, early))
+          ∙ ap (λ k. kept_from channels fed k 0 n) more in
           ap (λ k. map (over after) (map (run_from 15) (filter test (numbers_from 0 k)))) none
           ∙ sym (ap (λ k. map (over fed) (map (run_from 15) (filter old (numbers_from 0 k))) ++ []) before)
-          ∙ ap (λ o. map (over fed) (map (run_from 15) (filter old (numbers_from 0 (n + 1 - 15)))) ++ option_to_list o)
+          ∙ ap (λ o. map (over fed) (map (run_from 15) (filter old (numbers_from 0 (n + 1 - 15))))
+          ++ option_to_list o)
           (sym (completed_at channels (latest channels fed) (none_yet channels)
           (kept_from channels fed (13 - n) 0 n) b.part kept))
       | inr late ↦
@@ -345,7 +348,8 @@ short_push channels fed b =
           ∙ ap (λ k. map span_of (filter test (numbers_from 0 k))) all
           ∙ ap (map span_of) (numbers_filter_push test 0 low)
           ∙ map-append span_of (filter test (numbers_from 0 low)) (cond (test (0 + low)) ((0 + low) ∷ []) [])
-          ∙ ap (λ x. map span_of (filter test (numbers_from 0 low)) ++ map span_of (cond (test x) (x ∷ []) [])) here
+          ∙ ap (λ x. map span_of (filter test (numbers_from 0 low))
+          ++ map span_of (cond (test x) (x ∷ []) [])) here
           ∙ ap (λ gs. map span_of (filter test (numbers_from 0 low)) ++ gs) (map_cond span_of (test low) low)
           ∙ ap (λ xs. map span_of xs ++ cond (test low) (span_of low ∷ []) [])
           (filter_agree test old 0 low (λ x from below. mark_kept fed b x (omega (arith, below, late))))
@@ -361,7 +365,8 @@ short_push channels fed b =
           ∙ ap (λ ps. option_to_list (cond (old low) (Some (group_of None channels ps)) None))
           (sym (fifteen channels fed b low end))
           ∙ ap option_to_list (sym (completed_at channels (latest channels fed) (recent_at channels fed low)
-          (map (recent_at channels fed) (numbers_from (low + 1) 13)) b.part (latest_late channels fed low end))))
+          (map (recent_at channels fed) (numbers_from (low + 1) 13)) b.part
+          (latest_late channels fed low end))))
     ]
 
 -- ---- what contracts say

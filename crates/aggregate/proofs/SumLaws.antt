@@ -42,7 +42,8 @@ flag_new parts p = list_any-append (λ (p : Part). p.flagged) parts (p ∷ [])
     ∙ ap (λ b. list_any (λ (p : Part). p.flagged) parts || b) (or_nothing p.flagged)
 
 -- the sum after one more interval: the first one's start is there already, but for no interval
-pub summed_more : (old : SumView) (start : ℕ) (flagged : Bool) (squares : List ℕ) (parts : List Part) (p : Part)
+pub summed_more : (old : SumView) (start : ℕ) (flagged : Bool) (squares : List ℕ) (parts : List Part)
+    (p : Part)
     → HasSummed old parts
     → ((old.count ≡ 0) × (start ≡ p.start)) ⊎ ((old.count ≢ 0) × (start ≡ old.start))
     → flagged ≡ (old.flagged || p.flagged)
@@ -105,7 +106,8 @@ in_range count old squares values room is quiet long added = record {
   short = omega (arith, room);
   quiet = λ k d inside.
       let here : get_or squares k d ≡ get_or squares k 0 = get_or_default squares k d 0 inside in
-      let before : get_or old k 0 ≤ count * MOST_MICROVOLTS ^ 2 = is.quiet k 0 (omega (arith, inside, long)) in
+      let before : get_or old k 0 ≤ count * MOST_MICROVOLTS ^ 2 =
+      is.quiet k 0 (omega (arith, inside, long)) in
       let more : square (slice_index values k) ≤ MOST_MICROVOLTS ^ 2 =
       square_within (slice_index values k) (quiet_at values k quiet) in
       let sum : get_or squares k 0 ≡ get_or old k 0 + square (slice_index values k) = added k in

@@ -50,7 +50,8 @@ channel_within : (channels : ℕ) (parts : List Part) (k : ℕ) → All (λ (p :
     → channel_root channels parts k ≤ MOST_MICROVOLTS
 channel_within channels parts k quiet = at (nat_lt k channels)
   where
-    at : (b : Bool) → cond b (root_mean (map (λ (p : Part). slice_index p.values k) parts)) 0 ≤ MOST_MICROVOLTS
+    at : (b : Bool) → cond b (root_mean (map (λ (p : Part). slice_index p.values k) parts)) 0
+        ≤ MOST_MICROVOLTS
     at true = mean_within (map (λ (p : Part). slice_index p.values k) parts)
         (All-map (λ v. v ≤ MOST_MICROVOLTS) (λ (p : Part). slice_index p.values k) parts
         (All-weaker (λ (p : Part). AreQuiet p.values) (λ (p : Part). slice_index p.values k ≤ MOST_MICROVOLTS)
@@ -77,7 +78,8 @@ ten_is clock n channels basics tick next basic is =
     quiet k = All-map (λ (p : Part). AreQuiet p.values) (λ (b : Basic). b.part) (segment_at basics k)
         (All-take (λ (b : Basic). AreQuiet b.part.values) (segment_end basics k - k) (drop k basics)
         (All-drop (λ (b : Basic). AreQuiet b.part.values) k basics
-        (All-weaker (IsBasic n channels) (λ (b : Basic). AreQuiet b.part.values) (λ b h. h.quiet) basics basic)))
+        (All-weaker (IsBasic n channels) (λ (b : Basic). AreQuiet b.part.values)
+        (λ b h. h.quiet) basics basic)))
 
     at : (o : Option ℕ) → IfSome (option_and_then
         (λ segment. cond (reaches (parts_of segment) (tick_place clock n next))
@@ -138,7 +140,8 @@ module _ (f : ℤ × ℤ → Option Group) (ticked : (p : ℤ × ℤ) → IfSome
     where
       at : (o : Option Group) → IfSome o (λ g. g.tick ≡ Some first)
           → AllByRecursion (IsLater low) (filter_map f (zip (steps_from (first +ℤ pos 600) 600 n) us))
-          → AllByRecursion (IsLater low) (cons_option o (filter_map f (zip (steps_from (first +ℤ pos 600) 600 n) us)))
+          → AllByRecursion (IsLater low)
+          (cons_option o (filter_map f (zip (steps_from (first +ℤ pos 600) 600 n) us)))
       at None is rest = rest
       at (Some g) is rest = (subst (λ o. IfSome o (λ t. low <ℤ t)) (sym is) less, rest)
 
@@ -177,7 +180,8 @@ module _ (f : ℤ × ℤ → Option Group) (ticked : (p : ℤ × ℤ) → IfSome
           (later first (first +ℤ pos 600) n us (omega (arith, ints))) next then)
       at (Some g) tick (suc i) here next rest =
           let e : suc i + 1 ≡ suc (i + 1) = omega arith in
-          rest i here (sym (ap (slice_get (g ∷ filter_map f (zip (steps_from (first +ℤ pos 600) 600 n) us))) e) ∙ next)
+          rest i here
+          (sym (ap (slice_get (g ∷ filter_map f (zip (steps_from (first +ℤ pos 600) 600 n) us))) e) ∙ next)
 
 ten_ticked : (clock : Clock) (n channels : ℕ) (basics : List Basic) (p : ℤ × ℤ)
     → IfSome (ten_group clock n channels basics p.0 p.1) (λ g. g.tick ≡ Some p.0)
@@ -185,7 +189,8 @@ unfolding ten_group segment_of group_of
 ten_ticked clock n channels basics p =
     at (first_between (is_front_from basics (tick_place clock n p.0)) 0 (length basics))
   where
-    in_case : (b : Bool) (g : Group) → g.tick ≡ Some p.0 → IfSome (cond b (Some g) None) (λ g. g.tick ≡ Some p.0)
+    in_case : (b : Bool) (g : Group) → g.tick ≡ Some p.0 →
+        IfSome (cond b (Some g) None) (λ g. g.tick ≡ Some p.0)
     in_case true g h = h
     in_case false g h = tt
 

@@ -1,5 +1,5 @@
 -- Over a whole list an aggregator gives the intervals of the list.
-use Rattle.std.proofs.Common.{◌≡◌, ℕ, zero, suc, ◌+◌, ◌<◌, Bool, cond, ◌==◌, List, [], ◌∷◌, ◌++◌, length, find, flat_map, filter_map, map, drop, ℤ, Option, Some, None, option_to_list, slice_get, take, get_or, refl, sym, ◌∙◌, ap, subst, append_assoc, arith}
+use Rattle.std.proofs.Common.{◌≡◌, ℕ, zero, suc, ◌+◌, ◌<◌, cond, ◌==◌, List, [], ◌∷◌, ◌++◌, length, find, flat_map, filter_map, map, drop, ℤ, Option, Some, None, option_to_list, slice_get, take, get_or, refl, sym, ◌∙◌, ap, subst, append_assoc, arith}
 use Rattle.std.specs.List.{cons_option}
 use Rattle.std.proofs.Math.Seq.{append_snoc}
 use Rattle.std.proofs.lemmas.List.{append-nil, get_or_append_left, length-append, take-append-drop, take_more}
@@ -7,7 +7,7 @@ use Rattle.std.proofs.lemmas.Option.{slice_get_within}
 use Rattle.aggregate.specs.declared.group.Group.{Group}
 use Rattle.aggregate.specs.declared.group.Out.{Out}
 use Rattle.aggregate.specs.Aggregation.{Basic, as_part, group_of, has_tick, segment_of, short_groups, ten_group, ten_groups, tick_pairs, two_hour_group, two_hour_groups}
-use Rattle.aggregate.specs.Aggregator.{AddsGroups, AggregatorView, Completes, HasSeen, IsFed, MayFollow, SeesMore}
+use Rattle.aggregate.specs.Aggregator.{AddsGroups, AggregatorView, HasSeen, IsFed}
 use Rattle.aggregate.specs.BasicOrder.{AreBasics, BeginsAtFront, IsBasic}
 use Rattle.aggregate.specs.WholeList.{AreGroups, GivesGroups, StepsOver}
 use Rattle.pq_time.specs.declared.clock.Clock.{Clock}
@@ -41,7 +41,8 @@ no_two channels tick =
     ap (λ gs. cond (length gs == 12) (Some (group_of (Some tick) channels (map as_part gs))) None)
     (none_kept (λ t. find (has_tick t) []) (steps_from tick 600 12) (λ t. refl))
 
-no_twos : (clock : Clock) (n channels : ℕ) → [] ≡ two_hour_groups clock n channels (ten_groups clock n channels [])
+no_twos : (clock : Clock) (n channels : ℕ) → []
+    ≡ two_hour_groups clock n channels (ten_groups clock n channels [])
 unfolding two_hour_groups
 no_twos clock n channels =
     sym (none_kept (two_hour_group channels []) (ticks clock n 7200) (no_two channels))
@@ -97,7 +98,8 @@ Given clock n channels front es outs =
     ≡ two_hour_groups clock n channels (ten_groups clock n channels (front ++ es)))
 
 -- one answer more
-joined : (f : List Basic → List Group) (front es : List Basic) (e : Basic) (here : Option Group) (rest : List Group)
+joined : (f : List Basic → List Group) (front es : List Basic) (e : Basic) (here : Option Group)
+    (rest : List Group)
     → f (front ++ e ∷ []) ≡ f front ++ option_to_list here
     → f (front ++ e ∷ []) ++ rest ≡ f ((front ++ e ∷ []) ++ es)
     → f front ++ (option_to_list here ++ rest) ≡ f (front ++ e ∷ es)
@@ -127,9 +129,11 @@ gives_from front (e ∷ es) a last (out ∷ more) seen are steps =
     let keeps = steps.3 in
     let whole : (front ++ e ∷ []) ++ es ≡ front ++ e ∷ es = append_snoc front e es in
     let are_whole : IsFed a ((front ++ e ∷ []) ++ es) = subst (IsFed a) (sym whole) are in
-    let fed : IsFed a (front ++ e ∷ []) = earlier a.clock a.samples a.channels (front ++ e ∷ []) es are_whole in
+    let fed : IsFed a (front ++ e ∷ []) = earlier a.clock a.samples a.channels (front
+    ++ e ∷ []) es are_whole in
     let one : AddsGroups a front (front ++ e ∷ []) out = steps.1 front seen fed in
-    let fits : Clock → ℕ → ℕ → Type 0 = λ clock n channels. AreBasics clock n channels ((front ++ e ∷ []) ++ es) in
+    let fits : Clock → ℕ → ℕ → Type 0 = λ clock n channels. AreBasics clock n channels ((front
+    ++ e ∷ []) ++ es) in
     let are_next : IsFed next ((front ++ e ∷ []) ++ es) =
     subst (λ channels. fits next.clock next.samples channels) (sym keeps.same_channels)
     (subst (λ n. fits next.clock n a.channels) (sym keeps.same_samples)

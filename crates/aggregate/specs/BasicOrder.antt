@@ -39,8 +39,8 @@ abbrev pub HasTickBetween : Clock → ℕ → ℕ → ℕ → Type 0
 HasTickBetween clock n from to = (tick : ℤ) × Contains (ticks clock n 600) tick ×
     (from < tick_place clock n tick) × (tick_place clock n tick ≤ to)
 
--- basic interval b is the next after a: starts and ends rise; it begins a segment exactly where a tick's place
--- lies after the start of a and not after its own; and where it begins none, it begins where a ends (4.5)
+-- basic interval b is the next after a: starts and ends rise; it begins a segment exactly where a tick's
+-- place lies after the start of a and not after its own; where it begins none, it begins where a ends (4.5)
 pub record Follows (clock : Clock) (n : ℕ) (a b : Basic) : Type 0 where
   pub starts : a.part.start < b.part.start
   pub ends : a.part.end < b.part.end

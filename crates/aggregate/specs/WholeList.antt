@@ -6,7 +6,8 @@ use Rattle.aggregate.specs.Aggregator.{AddsGroups, AggregatorView, Completes, Ha
 use Rattle.aggregate.specs.BasicOrder.{AreBasics}
 use Rattle.pq_time.specs.declared.clock.Clock.{Clock}
 
--- an aggregator steps over basic intervals, one after another: an answer at each, and the aggregator after them
+-- an aggregator steps over basic intervals, one after another: an answer at each, and the aggregator after
+-- them
 abbrev pub StepsOver : AggregatorView → List Basic → List Out → AggregatorView → Type 0
 StepsOver a [] [] last = last ≡ a
 StepsOver a (b ∷ bs) (out ∷ more) last =

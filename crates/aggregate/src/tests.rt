@@ -1,11 +1,13 @@
 use crate::short::ShortSums;
 use crate::*;
+use pq_time::Clock;
 use std::alloc::Global;
 use std::test::Fail;
 use ten_twelve::Span;
 
 // Values of a cycle of a sine, and of one of which a half-cycle is halved.
 const WHOLE: u64 = 229_805_362;
+
 const HALVED: u64 = 211_869_380;
 
 // An interval of one channel: start, end, flag and value.
@@ -48,5 +50,32 @@ fn fifteen_basic_intervals(rt: HostRuntime) -> Result<(), Fail> {
     assert!(rt; shorts(alloc, &[0], 30)?.as_slice() == again.as_slice());
     assert!(rt; shorts(alloc, &[0, 10], 26)?.as_slice() == over_a_front.as_slice());
     assert!(rt; shorts(alloc, &[0, 5, 8], 23)?.as_slice() == over_two.as_slice());
+    Ok(())
+}
+
+// 800 samples a second from a tick on; the second ten minutes end with the recording.
+#[test]
+fn twice_ten_minutes(rt: HostRuntime) -> Result<(), Fail> {
+    let clock = Clock {
+        t0: 0,
+        rate: 800_000_000,
+    };
+    let mut aggregator = Aggregator::new(clock, 960_000, 1);
+    let span = Span {
+        start: 0,
+        end: 480_000,
+    };
+    let first = aggregator.step(span, true, &[WHOLE], false);
+    let span = Span {
+        start: 480_000,
+        end: 960_000,
+    };
+    let second = aggregator.step(span, true, &[HALVED], true);
+    let first = first.ten.ok_or("no interval")?;
+    let second = second.ten.ok_or("no interval")?;
+    assert!(rt; first.tick == Some(0) && first.start == 0 && first.end == 480_000);
+    assert!(rt; first.count == 1 && !first.flagged && first.values[0] == WHOLE);
+    assert!(rt; second.tick == Some(600) && second.start == 480_000 && second.end == 960_000);
+    assert!(rt; second.count == 1 && second.flagged && second.values[0] == HALVED);
     Ok(())
 }

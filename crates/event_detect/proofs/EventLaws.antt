@@ -92,7 +92,7 @@ extents_within cs =
     (λ cs c within.
     subst (λ es. AreWithin (length (cs ++ c ∷ [])) es) (sym (extents_push cs c))
     (subst (λ n. AreWithin n (add_condition c.begins c.ends (length cs) (extents cs)))
-        (sym (length_push cs c))
+    (sym (length_push cs c))
     (within_push (length cs) c.begins c.ends (extents cs) within)))
     cs
 
@@ -292,7 +292,7 @@ ended_from kind cs c b e (x ∷ xs) within = at x.first x.last e (ended_from kin
         (sym within.1) refl
     at f (Some k) e more within =
         ap (λ v. v ∷ map (event_over kind 0 (cs ++ c ∷ []))
-            (filter has_ended (add_condition b e (length cs) xs)))
+        (filter has_ended (add_condition b e (length cs) xs)))
         (ended_kept kind 0 f k cs c within.0 within.1)
         ∙ ap (λ vs. event_over kind 0 cs (extent f (Some k)) ∷ vs) (more within.2)
 

@@ -1,8 +1,4 @@
-pub mod CourseLemmas
-pub mod FileLemmas
-pub mod IntervalsLemmas
-pub mod PartLemmas
-pub mod ReadingLemmas
+pub mod MeasuringLemmas
 pub mod SelectionLemmas
 mod StandardFacts
 mod VerdictFacts

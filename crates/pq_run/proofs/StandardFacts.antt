@@ -1,22 +1,18 @@
 -- Worked values, so that a wrong rule in the specs does not check.
-use Rattle.std.proofs.Common.{◌≡◌, [], ◌∷◌, map, refl, pos, true, false}
+use Rattle.std.proofs.Common.{◌≡◌, ℕ, [], ◌∷◌, refl, pos, true, false}
 use Rattle.std.specs.Fmt.{digits}
 use Rattle.std.specs.Prelude.{codes}
-use Rattle.cfg_fields.specs.declared.fault.Quantity.TheVariants as quantity
-use Rattle.cfg_fields.specs.declared.fault.Unsupported.TheVariants as unsupported
 use Rattle.event_detect.specs.Flag.{is_touched}
 use Rattle.event_detect.specs.Threshold.{class_of, limits_of}
+use Rattle.event_detect.specs.declared.limits.Settings.{Settings}
 use Rattle.event_detect.specs.VoltageEvent.{event_from, event_over, events, extents}
 use Rattle.fixed_rms.specs.Root.{isqrt, mean_square, rms, root_in}
 use Rattle.half_cycle.specs.HalfCycleWindow.{window_between, windows, windows_over}
 use Rattle.jiff_core.specs.Calendar.{days_of_months}
 use Rattle.pq_base.specs.Recorded.{Recorded}
 use Rattle.pq_items.specs.declared.item.Item.TheVariants as item
-use Rattle.pq_run.specs.ReportText.{header, item_row, report_text, rows_text}
-use Rattle.pq_run.specs.Settings.{usual_limits}
-use Rattle.pq_run.specs.StatusText.{code_of, sentence_of}
-use Rattle.comtrade_dat.specs.declared.dat_fault.DatFault.TheVariants as fault
-use Rattle.pq_run.specs.declared.status.Status.TheVariants as status
+use Rattle.pq_report.specs.ReportText.{header, item_row, rows_text}
+use Rattle.pq_run.specs.Measuring.{report_text}
 use Rattle.pq_sequence.specs.BasicInterval.{basic_runs, front_of, fronts}
 use Rattle.polyphase.specs.PolyphaseEvent.{all_polyphase_events, begins, conditions, ends, latest, merged_windows}
 use Rattle.pq_sequence.specs.MeasuredRecording.{tick_places}
@@ -60,6 +56,16 @@ pub rows_with_ticks : (item_row (record { t0 = pos 1709294409995000000; rate = 1
 unfolding item_row time_of printed_moment date_shown days_of_months first_between first_of digits
 rows_with_ticks = (refl, refl)
 
+-- a declared voltage in millivolts, and the usual thresholds and hysteresis
+abbrev usual_settings : ℕ → Settings
+usual_settings udin_mv = record {
+  udin_mv = udin_mv;
+  dip = 900;
+  swell = 1100;
+  interruption = 50;
+  hysteresis = 20;
+}
+
 abbrev recorded : Recorded
 recorded = record {
   t0 = pos 1709294401000000000;
@@ -71,7 +77,7 @@ recorded = record {
 }
 
 -- two_intervals, to the byte
-pub two_intervals : report_text recorded (usual_limits 230000)
+pub two_intervals : report_text recorded (limits_of (usual_settings 230000))
     ≡ codes
     "kind,channel,start,end,from,to,tick,value,count,mark\nbasic,1,24,264,2024-03-01T12:00:01.020000000Z,2024-03-01T12:00:01.220000000Z,,229805362,10,clear\nbasic,1,264,504,2024-03-01T12:00:01.220000000Z,2024-03-01T12:00:01.420000000Z,,229805362,10,clear\n"
 unfolding report_text header item_row time_of printed_moment date_shown days_of_months sequential in_order
@@ -81,40 +87,3 @@ unfolding report_text header item_row time_of printed_moment date_shown days_of_
     boundaries first_boundary next_boundary rule_of first_between first_of sampled sine_count numbers_from
     steps_from rms mean_square isqrt root_in digits
 two_intervals = refl
-
--- ---- the sentences
-
-pub sentences : map sentence_of
-    (status.Usage ∷ status.CfgFault 2 0 ∷ status.CfgFault 3 13
-    ∷ status.Unsupported unsupported.FileType 9
-    ∷ status.Limit quantity.Status 2 ∷ status.Limit quantity.CfgBytes 0 ∷ status.Limit quantity.Value 3
-    ∷ status.Selection 0 ∷ status.Selection 9
-    ∷ status.DatFault (fault.Short 552) ∷ status.DatFault (fault.Number 3 4294967295)
-    ∷ status.DatFault (fault.Missing 5 1) ∷ status.DatFault (fault.Long 1)
-    ∷ status.ReadFault 1 ∷ status.WriteFault 2 ∷ status.OutOfMemory ∷ status.NoFile 2 ∷ status.Done ∷ [])
-    ≡ codes "usage: words not understood"
-    ∷ codes "cfg line 2: missing, surplus or wrong number of fields"
-    ∷ codes "cfg line 3 field 13: not readable"
-    ∷ codes "cfg line 9: unsupported file type"
-    ∷ codes "cfg line 2: limit passed: status channels"
-    ∷ codes "limit passed: cfg bytes"
-    ∷ codes "cfg line 3: limit passed: value"
-    ∷ codes "selection: no voltage channel"
-    ∷ codes "selection: channel 9"
-    ∷ codes "dat record 552: cut off"
-    ∷ codes "dat record 3: sample number 4294967295"
-    ∷ codes "dat record 5: channel 1 missing"
-    ∷ codes "dat: 1 bytes after the last record"
-    ∷ codes "read failed (1)"
-    ∷ codes "write failed (2)"
-    ∷ codes "out of memory"
-    ∷ codes "file 2: not found" ∷ [] ∷ []
-unfolding sentence_of digits
-sentences = refl
-
-pub exit_codes : map code_of
-    (status.Done ∷ status.Usage ∷ status.CfgFault 2 0 ∷ status.Unsupported unsupported.Revision 0
-    ∷ status.Limit quantity.DatBytes 0 ∷ status.Selection 0 ∷ status.DatFault (fault.Long 1) ∷ status.ReadFault 1 ∷
-    status.WriteFault 1 ∷ status.OutOfMemory ∷ status.NoFile 1 ∷ [])
-    ≡ 0 ∷ 1 ∷ 2 ∷ 3 ∷ 4 ∷ 5 ∷ 7 ∷ 8 ∷ 9 ∷ 11 ∷ 14 ∷ []
-exit_codes = refl

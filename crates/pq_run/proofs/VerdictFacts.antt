@@ -1,5 +1,7 @@
 -- Worked verdicts: refusals in their order, and jobs.
-use Rattle.std.proofs.Common.{◌≡◌, ℕ, List, [], ◌∷◌, ◌++◌, map, take, replicate, refl, Option, None, Some}
+use Rattle.std.proofs.Common.{◌≡◌, ℕ, List, [], ◌∷◌, ◌++◌, map, take, replicate, refl, Option, None, Some, Ok, Err}
+use Rattle.command_words.specs.Commands.{Analyse, Check, Intervals, Measurement}
+use Rattle.command_words.specs.declared.command.WordsFault.TheVariants as words_fault
 use Rattle.std.specs.Fmt.{digits}
 use Rattle.std.specs.Prelude.{codes, slice_set}
 use Rattle.comtrade_cfg.proofs.TwoIntervalsCfg.{with_line_ends}
@@ -9,17 +11,20 @@ use Rattle.comtrade_cfg.specs.Selecting.{selected_of}
 use Rattle.cfg_fields.specs.declared.fault.Quantity.TheVariants as quantity
 use Rattle.comtrade_dat.specs.Samples.{samples_of}
 use Rattle.comtrade_dat.specs.declared.dat_fault.DatFault.TheVariants as fault
+use Rattle.event_detect.specs.declared.limits.Settings.{Settings}
 use Rattle.event_detect.specs.VoltageEvent.{event_from, events, extents}
 use Rattle.half_cycle.specs.HalfCycleWindow.{windows, windows_over}
 use Rattle.jiff_core.specs.Calendar.{day_count, days_from_civil, days_of_months, days_of_years}
 use Rattle.pq_base.specs.Decimal.{decimal_of}
 use Rattle.pq_base.specs.Outside.{Files}
-use Rattle.pq_run.specs.Commands.{course_of_task, task_of}
-use Rattle.pq_run.specs.Intervals.{selected_configuration}
-use Rattle.pq_run.specs.ReportText.{header, report_text}
-use Rattle.pq_run.specs.Verdict.{AsksAll, AsksFront, Course, Job, Refused, verdict}
-use Rattle.pq_run.specs.declared.status.Status.{Status}
-use Rattle.pq_run.specs.declared.status.Status.TheVariants as status
+use Rattle.pq_run.specs.Check.{check_course}
+use Rattle.pq_run.specs.Commands.{analyse_task_course, still_task_course}
+use Rattle.pq_report.specs.ReportText.{header}
+use Rattle.pq_run.specs.Measuring.{dat_report, measuring_course, report_text, selected_configuration}
+use Rattle.pq_run.specs.SettingsLimits.{settings_limits}
+use Rattle.pq_course.specs.Verdict.{AsksAll, AsksFront, Course, Job, Refused, verdict}
+use Rattle.status_text.specs.declared.status.Status.{Status}
+use Rattle.status_text.specs.declared.status.Status.TheVariants as status
 use Rattle.pq_sequence.specs.BasicInterval.{basic_runs, front_of, fronts}
 use Rattle.polyphase.specs.PolyphaseEvent.{all_polyphase_events, begins, conditions, ends, latest, merged_windows}
 use Rattle.pq_sequence.specs.MeasuredRecording.{tick_places}
@@ -54,12 +59,28 @@ one_channel unit a sampling = cfg_with (codes "1,1A,0D") (channel unit a ∷ [])
 abbrev worked_cfg : Text → Text
 worked_cfg n = one_channel (codes "V") (codes "0.0325") (codes "1200," ++ n)
 
--- the course of words
-abbrev course_of_words : List Text → Course Status
-course_of_words words = course_of_task (task_of words)
+-- a declared voltage in millivolts, and the usual thresholds and hysteresis
+abbrev usual_settings : ℕ → Settings
+usual_settings udin_mv = record {
+  udin_mv = udin_mv;
+  dip = 900;
+  swell = 1100;
+  interruption = 50;
+  hysteresis = 20;
+}
 
-abbrev words : List Text
-words = codes "intervals" ∷ codes "--udin" ∷ codes "230000" ∷ codes "a.cfg" ∷ codes "a.dat" ∷ []
+-- the measurement of all channels at 230 V under the usual thresholds
+abbrev measurement : Measurement
+measurement = record {
+  settings = usual_settings 230000;
+  channels = None;
+  reference = None;
+  cfg = codes "a.cfg";
+  dat = codes "a.dat";
+}
+
+abbrev course : Course Status
+course = measuring_course measurement
 
 abbrev files_with : Text → Text → Option Files
 files_with cfg dat = Some ((codes "a.cfg", cfg) ∷ (codes "a.dat", dat) ∷ [])
@@ -73,7 +94,7 @@ three_records = dat_record 7 ++ dat_record 8 ++ dat_record 9
 
 -- the refusals of the dat, and of files that are not there: a byte less, a byte more, a missing count before
 -- a byte more, a sample number before a missing count
-pub dat_verdicts : map (verdict (course_of_words words))
+pub dat_verdicts : map (verdict course)
     (files_with (worked_cfg (codes "3")) (take 29 three_records)
     ∷ files_with (worked_cfg (codes "3")) (three_records ++ 0 ∷ [])
     ∷ files_with (worked_cfg (codes "3")) (slice_set (three_records ++ 0 ∷ []) 19 0x80)
@@ -83,7 +104,7 @@ pub dat_verdicts : map (verdict (course_of_words words))
     ∷ Some (Refused (status.DatFault (fault.Missing 2 1)))
     ∷ Some (Refused (status.DatFault (fault.Number 2 9)))
     ∷ Some (Refused (status.NoFile 1)) ∷ Some (Refused (status.NoFile 2)) ∷ None ∷ []
-unfolding task_of selected_configuration selected_of samples_of digits text_field
+unfolding settings_limits dat_report selected_configuration selected_of samples_of digits text_field
     number_field position_field decimal_text decimal_field channel_count frequency_field rate_field
     samples_field leap_field station_fields analogue_fields status_fields configuration_of configuration_ahead
     lines_behind channel_lines decimal_of written_moment date_of clock_time_of days_from_civil day_count
@@ -99,7 +120,7 @@ two_channels unit a other_unit other_a = cfg_with (codes "2,2A,0D")
 -- the refusals of the cfg, with no dat: the coefficient and the rate at their limits, a current, a fault
 -- after its numbers of channels, a voltage beside a state or a current, two voltages, of which one may be past
 -- the limit, and no channel
-pub cfg_verdicts : map (λ cfg. verdict (course_of_words words) (Some ((codes "a.cfg", cfg) ∷ [])))
+pub cfg_verdicts : map (λ cfg. verdict course (Some ((codes "a.cfg", cfg) ∷ [])))
     (one_channel (codes "V") (codes "305.2") (codes "1200,3")
     ∷ one_channel (codes "V") (codes "305.1") (codes "1200,3")
     ∷ one_channel (codes "V") (codes "0.0325") (codes "800,3")
@@ -122,7 +143,7 @@ pub cfg_verdicts : map (λ cfg. verdict (course_of_words words) (Some ((codes "a
     ∷ Some (Refused (status.NoFile 2))
     ∷ Some (Refused (status.Limit quantity.Value 4))
     ∷ Some (Refused (status.Selection 0)) ∷ []
-unfolding task_of selected_configuration selected_of samples_of digits text_field
+unfolding settings_limits dat_report selected_configuration selected_of samples_of digits text_field
     number_field position_field decimal_text decimal_field channel_count frequency_field rate_field
     samples_field leap_field station_fields analogue_fields status_fields configuration_of configuration_ahead
     lines_behind channel_lines decimal_of written_moment date_of clock_time_of days_from_civil day_count
@@ -130,45 +151,57 @@ unfolding task_of selected_configuration selected_of samples_of digits text_fiel
 cfg_verdicts = refl
 
 -- a cfg of no sample and an empty dat are a job: the header alone
-pub empty_recording : verdict (course_of_words words) (files_with (worked_cfg (codes "0")) [])
+pub empty_recording : verdict course (files_with (worked_cfg (codes "0")) [])
     ≡ Some (Job (codes "kind,channel,start,end,from,to,tick,value,count,mark\n"))
-unfolding task_of selected_configuration selected_of samples_of digits text_field
+unfolding settings_limits dat_report selected_configuration selected_of samples_of digits text_field
     number_field position_field decimal_text decimal_field channel_count frequency_field rate_field
     samples_field leap_field station_fields analogue_fields status_fields configuration_of configuration_ahead
     lines_behind channel_lines decimal_of written_moment date_of clock_time_of days_from_civil day_count
-    days_of_years days_of_months report_text header sequential in_order items_under all_polyphase_events merged_windows
-    conditions begins ends latest events extents event_from
+    days_of_years days_of_months report_text header sequential in_order items_under all_polyphase_events
+    merged_windows conditions begins ends latest events extents event_from
     successors windows windows_over tick_places ticks place_of time_of fronts front_of basic_runs runs
     cycle_boundaries boundaries first_boundary rule_of first_between first_of numbers_from steps_from
 empty_recording = refl
 
--- no file is needed for words that are not understood
-pub usage : map (λ w. verdict (course_of_words w) None)
-    ((codes "intervals" ∷ codes "a.cfg" ∷ codes "a.dat" ∷ []) ∷
-    (codes "intervals" ∷ codes "--udin" ∷ codes "0" ∷ codes "a.cfg" ∷ codes "a.dat" ∷ [])
-    ∷ (codes "intervals" ∷ codes "--udin" ∷ codes "1000000001" ∷ codes "a.cfg" ∷ codes "a.dat" ∷ []) ∷
-    (codes "intervals" ∷ codes "--udin" ∷ codes "+5" ∷ codes "a.cfg" ∷ codes "a.dat" ∷ [])
-    ∷ (codes "interval" ∷ codes "--udin" ∷ codes "1" ∷ codes "a.cfg" ∷ codes "a.dat" ∷ []) ∷
-    (codes "check" ∷ []) ∷ (codes "check" ∷ codes "a.cfg" ∷ codes "a.dat" ∷ []) ∷ [] ∷ [])
-    ≡ replicate 8 (Some (Refused status.Usage))
-unfolding task_of
-usage = refl
+-- no file is needed for words that are not understood, for commands of the other call, and for thresholds out
+-- of order
+pub refused_without_files : map (λ c. verdict c None)
+    (still_task_course (Err words_fault.NotUnderstood) ∷ still_task_course (Ok (Analyse measurement))
+    ∷ analyse_task_course (Err words_fault.NotUnderstood) ∷ analyse_task_course (Ok (Intervals measurement))
+    ∷ analyse_task_course (Ok (Check (codes "a.cfg")))
+    ∷ measuring_course (record measurement { settings = record (usual_settings 230000) { dip = 60 } }) ∷ [])
+    ≡ replicate 5 (Some (Refused status.Usage)) ++ Some (Refused status.BadLimits) ∷ []
+unfolding settings_limits
+refused_without_files = refl
+
+-- wanted channels that are not there or come twice, and a reference that is not wanted
+pub selections : map (λ m. verdict (measuring_course m) (files_with (worked_cfg (codes "3")) []))
+    (record measurement { channels = Some (9 ∷ []) } ∷ record measurement { channels = Some (1 ∷ 1 ∷ []) }
+    ∷ record measurement { channels = Some (1 ∷ []); reference = Some 2 } ∷ [])
+    ≡ Some (Refused (status.Selection 9)) ∷ Some (Refused (status.Selection 1))
+    ∷ Some (Refused (status.Selection 2)) ∷ []
+unfolding settings_limits dat_report selected_configuration selected_of samples_of digits text_field
+    number_field position_field decimal_text decimal_field channel_count frequency_field rate_field
+    samples_field leap_field station_fields analogue_fields status_fields configuration_of configuration_ahead
+    lines_behind channel_lines decimal_of written_moment date_of clock_time_of days_from_civil day_count
+    days_of_years days_of_months
+selections = refl
 
 -- the refusals of `check`: no such file, no line, line 2 with two fields
-pub check_verdicts : map (λ f. verdict (course_of_words (codes "check" ∷ codes "a.cfg" ∷ [])) f)
+pub check_verdicts : map (λ f. verdict (check_course (codes "a.cfg")) f)
     (Some [] ∷ Some ((codes "a.cfg", []) ∷ []) ∷ Some ((codes "a.cfg", codes "demo,pqa,1999\n1,1A\n") ∷ []) ∷
     None ∷ [])
     ≡ Some (Refused (status.NoFile 1)) ∷ Some (Refused (status.CfgFault 1 0)) ∷ Some
     (Refused (status.CfgFault 2 0)) ∷ None ∷ []
-unfolding task_of configuration_of configuration_ahead lines_behind station_fields text_field number_field
+unfolding configuration_of configuration_ahead lines_behind station_fields text_field number_field
 check_verdicts = refl
 
 -- ---- names
 
 -- where the cfg is good, it and the dat are asked for, and nothing else
-pub names_of_both : AsksAll (course_of_words words)
+pub names_of_both : AsksAll course
     (Some ((codes "a.cfg", worked_cfg (codes "3")) ∷ [])) (codes "a.cfg" ∷ codes "a.dat" ∷ [])
-unfolding task_of selected_configuration selected_of samples_of digits text_field
+unfolding settings_limits dat_report selected_configuration selected_of samples_of digits text_field
     number_field position_field decimal_text decimal_field channel_count frequency_field rate_field
     samples_field leap_field station_fields analogue_fields status_fields configuration_of configuration_ahead
     lines_behind channel_lines decimal_of written_moment date_of clock_time_of days_from_civil day_count
@@ -177,21 +210,20 @@ names_of_both =
     (Some (worked_cfg (codes "3")), codes "a.dat" ∷ [], refl, refl, (None, [], refl, refl, refl))
 
 -- where it isn't there, nothing but the cfg
-pub names_without_cfg : AsksAll (course_of_words words) (Some []) (codes "a.cfg" ∷ [])
-unfolding task_of
+pub names_without_cfg : AsksAll course (Some []) (codes "a.cfg" ∷ [])
+unfolding settings_limits
 names_without_cfg = (None, [], refl, refl, refl)
 
 -- no other name comes first, and the cfg's doesn't come twice
-pub no_name_of_its_own : AsksFront (course_of_words words) (Some []) (codes "a" ∷ []) → ⊥
-unfolding task_of
+pub no_name_of_its_own : AsksFront course (Some []) (codes "a" ∷ []) → ⊥
+unfolding settings_limits
 no_name_of_its_own (later, (found, rest, here, same, asked)) = cc
 
-pub no_name_twice : AsksFront (course_of_words words) (Some []) (codes "a.cfg" ∷ codes "a.cfg" ∷ []) → ⊥
-unfolding task_of
+pub no_name_twice : AsksFront course (Some []) (codes "a.cfg" ∷ codes "a.cfg" ∷ []) → ⊥
+unfolding settings_limits
 no_name_twice (later, (None, rest, here, same, asked)) = cc
 no_name_twice (later, (Some bytes, rest, here, same, asked)) = cc
 
 -- words that are not understood ask for nothing
-pub no_names : AsksAll (course_of_words (codes "check" ∷ [])) None []
-unfolding task_of
+pub no_names : AsksAll (still_task_course (Err words_fault.NotUnderstood)) None []
 no_names = refl

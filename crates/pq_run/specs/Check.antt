@@ -1,11 +1,12 @@
 -- The subject: the course of the command `check`, whose job is the canonical text of a cfg (profile).
 use Rattle.comtrade_cfg.specs.Canonical.{canonical_text}
 use Rattle.comtrade_cfg.specs.CfgText.{configuration_of}
-use Rattle.pq_run.specs.InputFile.{asks_for}
-use Rattle.pq_run.specs.Refusals.{cfg_refusal, goes_on, or_refused}
-use Rattle.pq_run.specs.Verdict.{Job, Course, Ends}
-use Rattle.pq_run.specs.declared.input_file.InputFile.TheVariants as file
-use Rattle.pq_run.specs.declared.status.Status.{Status}
+use Rattle.pq_course.specs.InputFile.{asks_for}
+use Rattle.status_text.specs.Refusals.{cfg_refusal, or_refused}
+use Rattle.pq_course.specs.Judged.{goes_on}
+use Rattle.pq_course.specs.Verdict.{Job, Course, Ends}
+use Rattle.pq_course.specs.declared.input_file.InputFile.TheVariants as file
+use Rattle.status_text.specs.declared.status.Status.{Status}
 use Rattle.pq_words.specs.Text.{Text}
 
 -- the canonical text of what a cfg says, or the cfg's refusal

@@ -1,12 +1,5 @@
 pub mod Check
 pub mod Commands
-pub mod InputFile
-pub mod Intervals
-pub mod Parts
+pub mod Measuring
 pub mod Program
-pub mod Refusals
-pub mod ReportText
-pub mod Settings
-pub mod StatusText
-pub mod TopCall
-pub mod Verdict
+pub mod SettingsLimits

@@ -1,12 +1,12 @@
 // The command `check`.
 ghost use Rattle.pq_run.specs.Check.{check_course};
-ghost use Rattle.pq_run.specs.Parts.{IsRead};
-ghost use Rattle.pq_run.specs.TopCall.{reading_of};
+ghost use Rattle.pq_course.specs.Parts.{IsRead};
+ghost use Rattle.pq_course.specs.TopCall.{reading_of};
 
-use crate::input_file::{InputFile, read_file};
-use crate::status::Status;
 use comtrade_cfg::{print_cfg, read_cfg};
 use pq_base::{Shelf, Text};
+use pq_course::{InputFile, read_file};
+use status_text::Status;
 use std::alloc::Global;
 
 /// The canonical text of a cfg.

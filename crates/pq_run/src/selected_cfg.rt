@@ -1,12 +1,13 @@
 // A configuration and the channels of it that are measured.
 ghost use Rattle.std.specs.Prelude.{IfErr};
-ghost use Rattle.pq_run.specs.Intervals.{IsSelectedConfiguration, selected_cfg_view, selected_configuration};
-ghost use Rattle.pq_run.specs.Refusals.{IsRefusing};
-ghost use Rattle.pq_run.specs.declared.status.Status.TheVariants as status;
+ghost use Rattle.comtrade_cfg.specs.Selecting.{wanted_view};
+ghost use Rattle.pq_run.specs.Measuring.{selected_cfg_view, selected_configuration};
 ghost use Rattle.pq_words.specs.FirstFault.{GivesUnless};
+ghost use Rattle.status_text.specs.Refusals.{IsRefusing};
+ghost use Rattle.status_text.specs.declared.status.Status.TheVariants as status;
 
-use crate::status::Status;
 use comtrade_cfg::{Cfg, Selection, read_cfg, select};
+use status_text::Status;
 use std::alloc::Global;
 
 /// A configuration, and its selected channels.
@@ -16,13 +17,19 @@ pub struct SelectedCfg {
     pub selection: Selection,
 }
 
-/// The configuration that a cfg says, with all its channels in V or kV, or the cfg's refusal.
-#[tactic(auto, unfolding(crate::specs::Intervals::selected_configuration))]
-pub fn selected_cfg(alloc: Global, cfg: &[u8]) -> Result<SelectedCfg, Status>
-    ensures value { GivesUnless status.OutOfMemory selected_cfg_view result (selected_configuration cfg.now) }
+/// The configuration that a cfg says, with its wanted channels and its reference, or the cfg's refusal.
+#[tactic(auto, unfolding(crate::specs::Measuring::selected_configuration))]
+pub fn selected_cfg(
+    alloc: Global,
+    cfg: &[u8],
+    wanted: Option<&[u32]>,
+    reference: Option<u32>,
+) -> Result<SelectedCfg, Status>
+    ensures value { GivesUnless status.OutOfMemory selected_cfg_view result
+        (selected_configuration (wanted_view wanted.entry) reference cfg.now) }
     ensures refuses { IfErr result IsRefusing }
 {
     let cfg = read_cfg(alloc, cfg)?;
-    let selection = select(alloc, &cfg, None, None)?;
+    let selection = select(alloc, &cfg, wanted, reference)?;
     Ok(SelectedCfg { cfg, selection })
 }

@@ -1,26 +1,22 @@
-// The settings of a command.
-ghost use Rattle.std.specs.Prelude.{◌≡◌};
-ghost use Rattle.event_detect.specs.Threshold.{IsInOrder};
-ghost use Rattle.pq_run.specs.Settings.{usual_limits};
-ghost use Rattle.pq_run.specs.Commands.{IsVoltage};
+// The limits of settings.
+ghost use Rattle.std.specs.Prelude.{◌≡◌, IfErr, IfOk};
+ghost use Rattle.event_detect.specs.Threshold.{IsInOrder, IsInRange};
+ghost use Rattle.pq_run.specs.SettingsLimits.{settings_limits};
+ghost use Rattle.status_text.specs.Refusals.{IsRefusing};
 
 use event_detect::{BadLimits, Limits, Settings};
+use status_text::Status;
 
-/// The limits of a declared voltage in millivolts under the usual thresholds, in microvolts.
-pub fn usual_limits_of(udin_mv: u64) -> Limits
-    requires { IsVoltage udin_mv }
-    ensures value { result ≡ usual_limits udin_mv }
-    ensures order { IsInOrder result }
+/// The thresholds of settings in microvolts, or their refusal.
+#[tactic(auto, unfolding(crate::specs::SettingsLimits::settings_limits))]
+pub fn limits_of(settings: &Settings) -> Result<Limits, Status>
+    requires { IsInRange settings.now }
+    ensures value { result ≡ settings_limits settings.now }
+    ensures order { IfOk result IsInOrder }
+    ensures refuses { IfErr result IsRefusing }
 {
-    let settings = Settings {
-        udin_mv,
-        dip: 900,
-        swell: 1100,
-        interruption: 50,
-        hysteresis: 20,
-    };
-    match Limits::of(&settings) {
-        Ok(limits) => limits,
-        Err(BadLimits) => unreachable!(),
+    match Limits::of(settings) {
+        Ok(limits) => Ok(limits),
+        Err(BadLimits) => Err(Status::BadLimits),
     }
 }

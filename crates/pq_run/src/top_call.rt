@@ -1,46 +1,81 @@
-// The top call of the commands that use no threads.
-ghost use Rattle.pq_run.specs.Commands.{course_of};
-ghost use Rattle.pq_run.specs.Parts.{IsRead};
-ghost use Rattle.pq_run.specs.TopCall.{IsTopCall, call_of, reading_of};
+// The top calls: each has commands of its own, and reads and writes in the same way.
+ghost use Rattle.pq_course.specs.Parts.{IsRead};
+ghost use Rattle.pq_course.specs.TopCall.{IsTopCall, call_of, reading_of};
+ghost use Rattle.pq_run.specs.Commands.{analyse_course, still_course};
 
 use crate::check::check;
-use crate::command::{Command, command_of};
-use crate::intervals::intervals;
-use crate::status::Status;
-use crate::writing::write_text;
+use crate::measuring::measured_report;
+use command_words::{Command, WordsFault, read_words};
+use lane_workers::Gate;
 use pq_base::{Shelf, Sink, Text};
+use pq_course::write_text;
+use status_text::Status;
 use std::alloc::Global;
+use std::sync::Wait;
+use std::thread::Threads;
 
-/// Runs the command that the words say: `check CFG` or `intervals --udin MV CFG DAT`. It always returns.
+/// Runs the command `analyse` that the words say. It may wait; the gate isn't called.
 ///
 /// `explained`: Done only where the verdict on the words and the told files is a job, and its text was taken;
 /// a refusal only where it is the verdict, and nothing was taken; a fault of the shelf or the sink only where
 /// its count rose in this call; and on every answer which names were asked. `complete`: where no count rose,
 /// the status is the verdict's, or want of memory. `once`: a fault is the one call that failed.
+pub fn analyse<R: Threads + Wait + Sync, K: Shelf, O: Sink, G: Gate + Sync>(
+    _rt: &R,
+    alloc: Global,
+    words: &[String],
+    shelf: &mut K,
+    out: &mut O,
+    _gate: &G,
+) -> Status
+    ensures { IsTopCall (analyse_course words.now)
+        (call_of K.Shelf O.Sink shelf.old shelf.new out.old out.new) result }
+{
+    match analysed_text(alloc, words, shelf) {
+        Ok(report) => write_text(report.bytes(), out),
+        Err(status) => status,
+    }
+}
+
+/// Runs the command `check` or `intervals` that the words say. It always returns, and promises what `analyse`
+/// does.
 pub fn still<K: Shelf, O: Sink>(
     alloc: Global,
     words: &[String],
     shelf: &mut K,
     out: &mut O,
 ) -> Status
-    ensures { IsTopCall (course_of words.now)
+    ensures { IsTopCall (still_course words.now)
         (call_of K.Shelf O.Sink shelf.old shelf.new out.old out.new) result }
 {
-    match job_text(alloc, words, shelf) {
+    match still_text(alloc, words, shelf) {
         Ok(text) => write_text(text.bytes(), out),
         Err(status) => status,
     }
 }
 
-// The text of the command's job.
-fn job_text<K: Shelf>(alloc: Global, words: &[String], shelf: &mut K) -> Result<Text, Status>
-    ensures { IsRead (course_of words.now) (reading_of K.Shelf shelf.old shelf.new) result }
+// The text of the job of a command of `analyse`.
+fn analysed_text<K: Shelf>(alloc: Global, words: &[String], shelf: &mut K) -> Result<Text, Status>
+    ensures { IsRead (analyse_course words.now) (reading_of K.Shelf shelf.old shelf.new) result }
 {
-    match command_of(words) {
-        Some(Command::Check { cfg }) => check(alloc, cfg, shelf),
-        Some(Command::Intervals { udin_mv, cfg, dat }) => {
-            intervals(alloc, udin_mv, cfg, dat, shelf)
-        }
-        None => Err(Status::Usage),
+    match read_words(alloc, words) {
+        Ok(Command::Analyse(measuring)) => measured_report(alloc, &measuring, shelf),
+        Ok(Command::Check { .. }) => Err(Status::Usage),
+        Ok(Command::Intervals(_)) => Err(Status::Usage),
+        Err(WordsFault::NotUnderstood) => Err(Status::Usage),
+        Err(WordsFault::OutOfMemory) => Err(Status::OutOfMemory),
+    }
+}
+
+// The text of the job of a command of `still`.
+fn still_text<K: Shelf>(alloc: Global, words: &[String], shelf: &mut K) -> Result<Text, Status>
+    ensures { IsRead (still_course words.now) (reading_of K.Shelf shelf.old shelf.new) result }
+{
+    match read_words(alloc, words) {
+        Ok(Command::Check { cfg }) => check(alloc, cfg, shelf),
+        Ok(Command::Intervals(measuring)) => measured_report(alloc, &measuring, shelf),
+        Ok(Command::Analyse(_)) => Err(Status::Usage),
+        Err(WordsFault::NotUnderstood) => Err(Status::Usage),
+        Err(WordsFault::OutOfMemory) => Err(Status::OutOfMemory),
     }
 }

@@ -1,7 +1,6 @@
 pub mod BasicLemmas
 pub mod BasicOrder
 pub mod CutLaws
-pub mod EventLemmas
 pub mod FrontLemmas
 pub mod FrontOrder
 pub mod GroupLemmas

@@ -1,6 +1,6 @@
--- The merged windows of a recording: joined channel by channel, and where they lie.
-use Rattle.std.proofs.Common.{◌≡◌, ℕ, suc, ◌+◌, ◌<◌, ◌≤◌, List, [], ◌∷◌, ◌++◌, length, map, take, All, sym, ◌∙◌, ap, subst, arith, append_assoc, append-nil}
-use Rattle.std.proofs.lemmas.List.{length-map, length-take-le, map-append, take_more}
+-- The merged windows of a recording, and where they lie.
+use Rattle.std.proofs.Common.{ℕ, ◌+◌, ◌<◌, ◌≤◌, List, [], ◌∷◌, length, All, subst, arith}
+use Rattle.std.proofs.lemmas.List.{length-map}
 use Rattle.std.proofs.lemmas.List.Elements.{All-append, All-from_get_or, All-head, All-map, All-nil, All-tail}
 use Rattle.std.proofs.lemmas.List.Sorted.{All-permutation}
 use Rattle.event_detect.specs.declared.window.Window.{Window}
@@ -10,35 +10,6 @@ use Rattle.pq_base.specs.Recorded.{Recorded, IsRecording, sample_count, samples_
 use Rattle.pq_sequence.specs.MeasuredRecording.{channel_windows, recorded_rule, recorded_windows, windows_by_channel}
 use Rattle.pq_words.proofs.SortedLaws.{in_order_permutes}
 use Rattle.zero_cross.specs.Boundary.{IsRule}
-
--- ---- joined channel by channel
-
-joined_push : (low : ℕ) (xs : List (List Window)) (x : List Window) →
-    joined_from low (xs ++ x ∷ []) ≡ joined_from low xs ++ of_channel (low + length xs) x
-joined_push low [] x =
-    let here : low ≡ low + 0 = omega arith in
-    append-nil (of_channel low x) ∙ ap (λ p. of_channel p x) here
-joined_push low (y ∷ ys) x =
-    let on : low + 1 + length ys ≡ low + suc (length ys) = omega arith in
-    ap (λ ms. of_channel low y ++ ms)
-    (joined_push (low + 1) ys x ∙ ap (λ p. joined_from (low + 1) ys ++ of_channel p x) on)
-    ∙ sym (append_assoc (of_channel low y) (joined_from (low + 1) ys) (of_channel (low + suc (length ys)) x))
-
--- the windows of the first channels
-abbrev pub joined_first : Recorded → ℕ → List ChannelWindow
-joined_first r channels = joined_from 0 (map (channel_windows r) (take channels r.samples))
-
--- one channel more
-pub joined_more : (r : Recorded) (p : ℕ) → p < length r.samples →
-    joined_first r (p + 1) ≡ joined_first r p ++ of_channel p (channel_windows r (samples_at r p))
-joined_more r p inside =
-    let of_all = channel_windows r in
-    let count : 0 + length (map of_all (take p r.samples)) ≡ p =
-    omega (arith, length-map (take p r.samples) of_all, length-take-le p r.samples (omega (arith, inside))) in
-    ap (λ samples. joined_from 0 (map of_all samples)) (take_more r.samples p [] inside)
-    ∙ ap (joined_from 0) (map-append of_all (take p r.samples) (samples_at r p ∷ []))
-    ∙ joined_push 0 (map of_all (take p r.samples)) (of_all (samples_at r p))
-    ∙ ap (λ n. joined_first r p ++ of_channel n (of_all (samples_at r p))) count
 
 -- ---- where they lie
 

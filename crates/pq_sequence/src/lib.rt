@@ -9,15 +9,14 @@ pub use sequential::sequence;
 mod basics;
 mod clock;
 mod cycles;
-mod events;
 mod fronts;
 mod groups;
 mod intervals;
 mod items;
 mod laws;
-mod merged;
 mod readings;
 mod sequential;
 #[cfg(test)]
 mod tests;
 mod touches;
+mod windows;

@@ -7,16 +7,16 @@ ghost use Rattle.pq_sequence.specs.Lists.{Gives, GivesAll};
 ghost use Rattle.pq_sequence.specs.MeasuredRecording.{recorded_events as events_of_recording};
 ghost use Rattle.pq_sequence.specs.SequentialResult.{all_items as items_of_recording, items_under, sequential};
 
-use crate::events::all_events;
 use crate::intervals::{push_intervals, recorded_intervals};
 use crate::items::push_events;
-use crate::merged::merged_windows;
 use crate::readings::push_readings;
 use crate::touches::reaches;
+use crate::windows::channel_windows;
 use event_detect::{Event, Limits};
 use pq_base::{OutOfMemory, Recording};
 use pq_items::{Item, sort_items};
 use std::alloc::{AllocError, Global};
+use supply_events::supply_events;
 
 /// All items of a recording, in order: the frequency readings of its reference channel; the basic
 /// intervals of each channel over the cycles of the reference channel, which begin anew at each
@@ -56,7 +56,7 @@ fn all_items(
     Ok(items)
 }
 
-// The events of the whole recording, over the merged windows of its channels.
+// The events of the whole recording, over the windows of its channels.
 fn recorded_events(
     alloc: Global,
     recording: &Recording,
@@ -66,14 +66,8 @@ fn recorded_events(
     ensures value { Gives result (events_of_recording recording.now limits.now) }
     ensures conditions { OnOk result (IsRecording recording.now) }
 {
-    let windows = merged_windows(alloc, recording)?;
-    all_events(
-        alloc,
-        &windows,
-        recording.channels(),
-        limits,
-        recording.len(),
-    )
+    let channels = channel_windows(alloc, recording)?;
+    supply_events(alloc, channels, limits, recording.len())
 }
 
 // All items of a recording that has these events, kind by kind.

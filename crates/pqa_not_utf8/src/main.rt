@@ -1,6 +1,7 @@
 //! The program with standard output in place of standard error, on a word that is not UTF-8: nothing is told.
 #![tactic(auto)]
 
+use lane_workers::OpenGate;
 use pq_base::{FileShelf, OutSink};
 use pq_run::{Streams, run, words_of};
 use std::process::ExitCode;
@@ -11,10 +12,12 @@ fn main(rt: HostRuntime) -> ExitCode {
             let out = OutSink::new(&rt);
             let err = OutSink::new(&rt);
             run(
+                &rt,
                 rt.alloc(),
                 &words,
                 &mut FileShelf::new(&rt),
                 &mut Streams { out, err },
+                &OpenGate,
             )
         }
         Err(status) => status.code(),

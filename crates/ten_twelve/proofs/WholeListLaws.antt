@@ -73,5 +73,5 @@ gives_runs = record {
       ∙ gives_from first.length [] elements first last answers refl seen fed steps;
   ends_there = λ elements first last answers k e run some seen fed steps there given.
       ends_there_from first.length [] elements first last answers k e run some refl seen fed steps there
-          given;
+      given;
 }

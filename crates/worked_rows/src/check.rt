@@ -1,10 +1,9 @@
 // The command `check` on a cfg of 2013, on cfgs at fault, and on shelves and sinks that fail.
-use crate::outside::{Outside, WHOLE, run};
-use crate::signal::{WORKED, cfg};
 use comtrade_cfg::{Quantity, Unsupported};
 use pq_run::Status;
 use std::alloc::{AllocError, Global};
 use std::test::Fail;
+use worked_signals::{Outside, WHOLE, WORKED, cfg, run};
 
 const WORDS: [&str; 2] = ["check", "a.cfg"];
 

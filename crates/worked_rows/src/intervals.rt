@@ -1,15 +1,18 @@
 // The command `intervals` on worked recordings, on cfgs and dats that are refused, and on calls that fail.
-use crate::outside::{Outside, WHOLE, run};
 use crate::reports::{
     ALL_ZERO, AT_THRESHOLD, BELOW_THRESHOLD, HALVED, HEADER, ONE_ROW, OVER_TICK, TWO_ROWS,
 };
-use crate::signal::{Signal, WORKED, Written, cfg, dat};
 use comtrade_cfg::Quantity;
 use pq_run::{DatFault, Status};
 use std::alloc::{AllocError, Global};
 use std::test::Fail;
+use worked_signals::{
+    Outside, Signal, WHOLE, WORKED, Written, cfg, dat, one_channel, run, run_analyse,
+};
 
 const WORDS: [&str; 5] = ["intervals", "--udin", "230000", "a.cfg", "a.dat"];
+
+const ANALYSE: [&str; 5] = ["analyse", "--udin", "230000", "a.cfg", "a.dat"];
 
 // The worked cfg, at the half of a second before noon that puts noon at place 594.
 const BEFORE_NOON: Written<'static> = Written {
@@ -19,7 +22,7 @@ const BEFORE_NOON: Written<'static> = Written {
 
 // At 0.02 V a count.
 const SQUARE: Written<'static> = Written {
-    coefficient: "0.02",
+    channels: "1,1A,0D\n1,UA,A,,V,0.02,0,0,-32767,32767,1,1,P\n",
     ..WORKED
 };
 
@@ -33,7 +36,7 @@ const BELOW: Signal = Signal::Stepped {
     after: 10_580,
 };
 
-// Recordings of worked signals, in pieces of every size.
+// Recordings of worked signals, in pieces of every size, and by `analyse`.
 #[test]
 fn worked_recordings(rt: HostRuntime) -> Result<(), Fail> {
     let alloc = rt.alloc();
@@ -49,7 +52,7 @@ fn worked_recordings(rt: HostRuntime) -> Result<(), Fail> {
         (BELOW, SQUARE, 552, BELOW_THRESHOLD),
     ] {
         let cfg = cfg(alloc, Written { samples, ..written })?;
-        let bytes = dat(alloc, signal, samples)?;
+        let bytes = dat(alloc, &[signal], samples)?;
         for piece in [1, 100, 1_000_000] {
             let outside = Outside {
                 read_piece: piece,
@@ -60,6 +63,9 @@ fn worked_recordings(rt: HostRuntime) -> Result<(), Fail> {
             assert_eq!(rt; ran.status, Status::Done, "{samples} samples");
             assert_eq!(rt; ran.taken.as_slice(), text.as_bytes(), "{samples} samples");
         }
+        let ran = run_analyse(&rt, alloc, &ANALYSE, Some(&cfg), Some(&bytes), WHOLE)?;
+        assert_eq!(rt; ran.status, Status::Done, "{samples} samples");
+        assert_eq!(rt; ran.taken.as_slice(), text.as_bytes(), "{samples} samples");
     }
     Ok(())
 }
@@ -74,43 +80,72 @@ const RATE: Status = Status::Limit {
     line: 6,
 };
 
-// value_and_rate_limits, and cfgs of a current, of two channels and of a state, with an empty dat.
+const NO_VOLTAGE: Status = Status::Selection { channel: 0 };
+
+// value_and_rate_limits, with an empty dat.
 #[test]
-fn cfgs_of_one_channel_and_others(rt: HostRuntime) -> Result<(), Fail> {
+fn values_and_rates_at_their_limits(rt: HostRuntime) -> Result<(), Fail> {
     let alloc = rt.alloc();
-    for (counts, unit, coefficient, rate, status) in [
-        ("1,1A,0D", "V", "305.2", "1200", VALUE),
-        ("1,1A,0D", "V", "305.1", "1200", Status::Done),
-        ("1,1A,0D", "kV", "0.3051", "1200", Status::Done),
-        ("1,1A,0D", "V", "0.0325", "800", Status::Done),
-        ("1,1A,0D", "V", "0.0325", "799.999999", RATE),
-        ("1,1A,0D", "V", "305.2", "799.999999", RATE),
-        (
-            "1,1A,0D",
-            "A",
-            "305.2",
-            "1200",
-            Status::Selection { channel: 0 },
-        ),
-        ("2,2A,0D", "V", "305.2", "1200", VALUE),
-        ("2,2A,0D", "V", "305.1", "1200", Status::Done),
-        ("2,2A,0D", "A", "305.2", "1200", Status::Done),
-        ("2,1A,1D", "V", "0.0325", "1200", Status::Done),
+    for (unit, coefficient, rate, status) in [
+        ("V", "305.2", "1200", VALUE),
+        ("V", "305.1", "1200", Status::Done),
+        ("kV", "0.3051", "1200", Status::Done),
+        ("V", "0.0325", "800", Status::Done),
+        ("V", "0.0325", "799.999999", RATE),
+        ("V", "305.2", "799.999999", RATE),
+        ("A", "305.2", "1200", NO_VOLTAGE),
     ] {
+        let channels = one_channel(alloc, unit, coefficient)?;
         let written = Written {
-            counts,
-            unit,
-            coefficient,
+            channels: channels.as_str(),
             rate,
             ..WORKED
         };
         let ran = run(alloc, &WORDS, Some(&cfg(alloc, written)?), Some(&[]), WHOLE)?;
-        assert_eq!(rt; ran.status, status, "{counts} {unit} {coefficient} {rate}");
+        assert_eq!(rt; ran.status, status, "{unit} {coefficient} {rate}");
         let text = if status == Status::Done { HEADER } else { "" };
         assert_eq!(rt; ran.taken.as_slice(), text.as_bytes());
     }
     Ok(())
 }
+
+// A second channel in volts, with an empty dat: two of which one passes its limit, and a current or a state
+// beside a voltage.
+#[test]
+fn second_channels(rt: HostRuntime) -> Result<(), Fail> {
+    let alloc = rt.alloc();
+    for (channels, status) in [
+        (LARGE_AND_SMALL, VALUE),
+        (TWO_VOLTAGES, Status::Done),
+        (CURRENT_AND_VOLTAGE, Status::Done),
+        (VOLTAGE_AND_STATE, Status::Done),
+    ] {
+        let written = Written { channels, ..WORKED };
+        let ran = run(alloc, &WORDS, Some(&cfg(alloc, written)?), Some(&[]), WHOLE)?;
+        assert_eq!(rt; ran.status, status, "{channels}");
+    }
+    Ok(())
+}
+
+const LARGE_AND_SMALL: &str = "2,2A,0D
+1,UA,A,,V,305.2,0,0,-32767,32767,1,1,P
+2,UB,B,,V,1,0,0,-32767,32767,1,1,P
+";
+
+const TWO_VOLTAGES: &str = "2,2A,0D
+1,UA,A,,V,305.1,0,0,-32767,32767,1,1,P
+2,UB,B,,V,1,0,0,-32767,32767,1,1,P
+";
+
+const CURRENT_AND_VOLTAGE: &str = "2,2A,0D
+1,IA,A,,A,305.2,0,0,-32767,32767,1,1,P
+2,UB,B,,V,1,0,0,-32767,32767,1,1,P
+";
+
+const VOLTAGE_AND_STATE: &str = "2,1A,1D
+1,UA,A,,V,0.0325,0,0,-32767,32767,1,1,P
+1,IN 1,,,0
+";
 
 // The worked cfg of 552 samples.
 fn worked_cfg(alloc: Global) -> Result<Vec<u8>, AllocError> {
@@ -128,7 +163,7 @@ fn worked_cfg(alloc: Global) -> Result<Vec<u8>, AllocError> {
 fn refused_dats(rt: HostRuntime) -> Result<(), Fail> {
     let alloc = rt.alloc();
     let cfg = worked_cfg(alloc)?;
-    let whole = dat(alloc, Signal::Sine, 552)?;
+    let whole = dat(alloc, &[Signal::Sine], 552)?;
     let mut long = whole.to_vec(alloc)?;
     long.push(0)?;
     let mut missing = whole.to_vec(alloc)?;
@@ -181,7 +216,7 @@ fn refused_files(rt: HostRuntime) -> Result<(), Fail> {
 fn failing_calls(rt: HostRuntime) -> Result<(), Fail> {
     let alloc = rt.alloc();
     let cfg = worked_cfg(alloc)?;
-    let bytes = dat(alloc, Signal::Sine, 552)?;
+    let bytes = dat(alloc, &[Signal::Sine], 552)?;
     let second_write = Outside {
         write_fails: &[1],
         write_piece: 100,
@@ -221,7 +256,7 @@ fn words_that_are_not_understood(rt: HostRuntime) -> Result<(), Fail> {
         &["intervals", "--udin", "00000000001", "a.cfg", "a.dat"],
         &["intervals", "--udin", "+1", "a.cfg", "a.dat"],
         &["analyse", "--udin", "1", "a.cfg", "a.dat"],
-        &["intervals", "a.cfg", "a.dat", "--udin", "1"],
+        &["intervals", "a.cfg", "a.dat"],
         &["check"],
         &["check", "a.cfg", "a.dat"],
         &[],

@@ -12,7 +12,7 @@ mod dats;
 #[cfg(test)]
 mod intervals;
 #[cfg(test)]
-mod outside;
+mod options;
 #[cfg(test)]
 mod program;
 #[cfg(test)]
@@ -21,8 +21,6 @@ mod reports;
 mod sentences;
 #[cfg(test)]
 mod several_channels;
-#[cfg(test)]
-mod signal;
 #[cfg(test)]
 mod sixty_hertz;
 #[cfg(test)]

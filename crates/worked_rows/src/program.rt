@@ -1,11 +1,13 @@
 // The run of the program: its code, and the line that it tells.
-use crate::outside::strings;
 use crate::reports::HEADER;
-use crate::signal::{WORKED, cfg};
+use lane_workers::OpenGate;
 use pq_base::{MemShelf, MemSink};
 use pq_run::{Streams, run};
 use std::alloc::Global;
+use std::sync::Wait;
 use std::test::Fail;
+use std::thread::Threads;
+use worked_signals::{WORKED, cfg, strings};
 
 // What a run gave.
 #[derive(Drop)]
@@ -16,7 +18,12 @@ struct Ran {
 }
 
 // Runs the words over the files `a.cfg`, `a.dat` and `bad.cfg`; these writes of the second sink fail.
-fn run_with(alloc: Global, words: &[&str], fails: &[u64]) -> Result<Ran, Fail> {
+fn run_with<R: Threads + Wait + Sync>(
+    rt: &R,
+    alloc: Global,
+    words: &[&str],
+    fails: &[u64],
+) -> Result<Ran, Fail> {
     let mut files = Vec::new(alloc);
     files.push((String::from_str(alloc, "a.cfg")?, cfg(alloc, WORKED)?))?;
     files.push((String::from_str(alloc, "a.dat")?, Vec::new(alloc)))?;
@@ -26,7 +33,8 @@ fn run_with(alloc: Global, words: &[&str], fails: &[u64]) -> Result<Ran, Fail> {
     let out = MemSink::new(alloc, 1000, Vec::new(alloc), 1000)?;
     let err = MemSink::new(alloc, 1000, fails.to_vec(alloc)?, 1000)?;
     let mut streams = Streams { out, err };
-    let code = run(alloc, &strings(alloc, words)?, &mut shelf, &mut streams);
+    let words = strings(alloc, words)?;
+    let code = run(rt, alloc, &words, &mut shelf, &mut streams, &OpenGate);
     let out = streams.out.taken().to_vec(alloc)?;
     let err = streams.err.taken().to_vec(alloc)?;
     Ok(Ran { code, out, err })
@@ -35,13 +43,20 @@ fn run_with(alloc: Global, words: &[&str], fails: &[u64]) -> Result<Ran, Fail> {
 #[test]
 fn codes_and_lines(rt: HostRuntime) -> Result<(), Fail> {
     let alloc = rt.alloc();
-    let said: [(&[&str], u8, &str, &str); 4] = [
+    let said: [(&[&str], u8, &str, &str); 6] = [
         (
             &["intervals", "--udin", "230000", "a.cfg", "a.dat"],
             0,
             HEADER,
             "",
         ),
+        (
+            &["analyse", "--udin", "230000", "a.cfg", "a.dat"],
+            0,
+            HEADER,
+            "",
+        ),
+        (&["analyse"], 1, "", "usage: words not understood\n"),
         (&["check"], 1, "", "usage: words not understood\n"),
         (
             &["check", "bad.cfg"],
@@ -57,7 +72,7 @@ fn codes_and_lines(rt: HostRuntime) -> Result<(), Fail> {
         ),
     ];
     for (words, code, out, err) in said {
-        let ran = run_with(alloc, words, &[])?;
+        let ran = run_with(&rt, alloc, words, &[])?;
         assert_eq!(rt; ran.code, code);
         assert_eq!(rt; ran.out.as_slice(), out.as_bytes());
         assert_eq!(rt; ran.err.as_slice(), err.as_bytes());
@@ -69,7 +84,7 @@ fn codes_and_lines(rt: HostRuntime) -> Result<(), Fail> {
 #[test]
 fn line_cut_off(rt: HostRuntime) -> Result<(), Fail> {
     let alloc = rt.alloc();
-    let ran = run_with(alloc, &["check", "bad.cfg"], &[1])?;
+    let ran = run_with(&rt, alloc, &["check", "bad.cfg"], &[1])?;
     assert_eq!(rt; ran.code, 2);
     assert_eq!(rt; ran.err.as_slice(), b"cfg line ".as_slice());
     Ok(())

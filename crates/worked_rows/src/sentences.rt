@@ -47,6 +47,7 @@ fn sentences(rt: HostRuntime) -> Result<(), Fail> {
             "selection: no voltage channel",
         ),
         (Status::Selection { channel: 9 }, 5, "selection: channel 9"),
+        (Status::BadLimits, 6, "settings: thresholds out of order"),
         (
             dat(DatFault::Short { at: 552 }),
             7,

@@ -1,11 +1,10 @@
 // Recordings of several channels, by hand: at 1200 Hz a sample is taken each 1/1200 s, and 24 of them make a
 // cycle. Each channel has its own crossings and windows; an event is of all channels together.
 use crate::check::cfg_2013;
-use crate::outside::{WHOLE, run};
-use crate::signal::{Signal, count};
 use pq_run::Status;
 use std::alloc::{AllocError, Global};
 use std::test::Fail;
+use worked_signals::{Signal, WHOLE, WORKED, Written, cfg, dat, push_head, run};
 
 const WORDS: [&str; 5] = ["intervals", "--udin", "230000", "a.cfg", "a.dat"];
 
@@ -57,93 +56,43 @@ const THREE: &str = "3,3A,0D
 3,UC,C,,V,0.0325,0,0,-32767,32767,1,1,P
 ";
 
-// What a channel records.
-#[derive(Clone, Copy)]
-enum Wave {
-    Worked(Signal),
-    // A square of 7000 counts, 24 samples a cycle from place 0 on, with other counts from a place up to
-    // another.
-    Square { low: i16, from: u32, until: u32 },
-    // The same, of 20 samples a cycle from place 4 on.
-    Short { low: i16, from: u32, until: u32 },
-}
+const HALVED: [Signal; 2] = [Signal::Halved, Signal::Sine];
 
-// 7000 counts, and others from a place up to another.
-fn size(low: i16, from: u32, until: u32, i: u32) -> i16 {
-    if from <= i && i < until { low } else { 7000 }
-}
-
-fn signed(is_high: bool, size: i16) -> i16 {
-    if is_high {
-        size
-    } else {
-        0i16.saturating_sub(size)
-    }
-}
-
-fn count_of(wave: Wave, i: u32) -> i16 {
-    match wave {
-        Wave::Worked(signal) => count(signal, i),
-        Wave::Square { low, from, until } => signed(i % 24 < 12, size(low, from, until, i)),
-        Wave::Short { low, from, until } => {
-            signed((i % 20 + 16) % 20 < 10, size(low, from, until, i))
-        }
-    }
-}
-
-fn push_counts(dat: &mut Vec<u8>, waves: &[Wave], i: u32) -> Result<(), AllocError> {
-    for wave in waves {
-        dat.extend_from_slice(&count_of(*wave, i).to_le_bytes())?;
-    }
-    Ok(())
-}
-
-// 552 records, numbered from 1.
-fn dat(alloc: Global, waves: &[Wave]) -> Result<Vec<u8>, AllocError> {
-    let mut dat = Vec::new(alloc);
-    for i in 0..552u32 {
-        dat.extend_from_slice(&(i + 1).to_le_bytes())?;
-        dat.extend_from_slice(&[0; 4])?;
-        push_counts(&mut dat, waves, i)?;
-    }
-    Ok(dat)
-}
-
-// The cfg of these channels.
-fn cfg(alloc: Global, channels: &str) -> Result<Vec<u8>, AllocError> {
-    let text = format!(in alloc;
-        "demo,pqa,1999\n{channels}50\n1\n1200,552\n01/03/2024,12:00:01.000000\n01/03/2024,12:00:01.000000\nBINARY\n1\n"
-    )?;
-    Ok(text.into_bytes())
-}
-
-const HALVED: [Wave; 2] = [Wave::Worked(Signal::Halved), Wave::Worked(Signal::Sine)];
-
-const SQUARES: [Wave; 2] = [
-    Wave::Square {
+const SQUARES: [Signal; 2] = [
+    Signal::Square {
+        period: 24,
+        rises: 0,
         low: 6000,
         from: 252,
         until: 276,
     },
-    Wave::Short {
+    Signal::Square {
+        period: 20,
+        rises: 4,
         low: 6000,
         from: 244,
         until: 264,
     },
 ];
 
-const FALLING: [Wave; 3] = [
-    Wave::Square {
+const FALLING: [Signal; 3] = [
+    Signal::Square {
+        period: 24,
+        rises: 0,
         low: 300,
         from: 120,
         until: 240,
     },
-    Wave::Square {
+    Signal::Square {
+        period: 24,
+        rises: 0,
         low: 300,
         from: 132,
         until: 240,
     },
-    Wave::Square {
+    Signal::Square {
+        period: 24,
+        rises: 0,
         low: 300,
         from: 144,
         until: 216,
@@ -153,19 +102,20 @@ const FALLING: [Wave; 3] = [
 #[test]
 fn recordings_of_several_channels(rt: HostRuntime) -> Result<(), Fail> {
     let alloc = rt.alloc();
-    let rows: [(&str, &[Wave], &str); 3] = [
+    let rows: [(&str, &[Signal], &str); 3] = [
         (TWO_OF_WHICH_ONE_IS_LOWER, &HALVED, HYSTERESIS),
         (TWO, &SQUARES, MERGED),
         (THREE, &FALLING, INTERRUPTED),
     ];
-    for (channels, waves, text) in rows {
-        let ran = run(
-            alloc,
-            &WORDS,
-            Some(&cfg(alloc, channels)?),
-            Some(&dat(alloc, waves)?),
-            WHOLE,
-        )?;
+    for (channels, signals, text) in rows {
+        let written = Written {
+            channels,
+            samples: 552,
+            ..WORKED
+        };
+        let cfg = cfg(alloc, written)?;
+        let bytes = dat(alloc, signals, 552)?;
+        let ran = run(alloc, &WORDS, Some(&cfg), Some(&bytes), WHOLE)?;
         assert_eq!(rt; ran.status, Status::Done);
         assert_eq!(rt; ran.taken.as_slice(), text.as_bytes());
     }
@@ -186,8 +136,8 @@ fn four_channels_of_eight(rt: HostRuntime) -> Result<(), Fail> {
     let alloc = rt.alloc();
     let mut dat = Vec::new(alloc);
     for i in 0..9600u32 {
-        dat.extend_from_slice(&(i + 1).to_le_bytes())?;
-        dat.extend_from_slice(&[0; 24])?;
+        push_head(&mut dat, i + 1)?;
+        dat.extend_from_slice(&[0; 20])?;
     }
     let ran = run(alloc, &WORDS, Some(&cfg_2013(alloc)?), Some(&dat), WHOLE)?;
     assert_eq!(rt; ran.status, Status::Done);

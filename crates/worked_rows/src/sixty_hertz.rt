@@ -1,10 +1,8 @@
 // Recordings at 60 Hz, by hand: at 1440 Hz a sample is taken each 1/1440 s, and 24 of them make a
 // cycle, 288 the twelve of a basic interval.
-use crate::outside::{WHOLE, run};
-use crate::signal::{Signal, dat};
 use pq_run::Status;
-use std::alloc::{AllocError, Global};
 use std::test::Fail;
+use worked_signals::{Signal, WHOLE, WORKED, Written, cfg, dat, run};
 
 const WORDS: [&str; 5] = ["intervals", "--udin", "230000", "a.cfg", "a.dat"];
 
@@ -38,14 +36,6 @@ basic,1,720,1008,2024-03-01T12:00:00.005000000Z,2024-03-01T12:00:00.205000000Z,,
 basic,1,1008,1296,2024-03-01T12:00:00.205000000Z,2024-03-01T12:00:00.405000000Z,,229805362,12,clear
 ";
 
-// One channel in volts at 0.0325 V a count, 1440 samples a second.
-fn cfg(alloc: Global, first: &str, samples: u32) -> Result<Vec<u8>, AllocError> {
-    let text = format!(in alloc;
-        "demo,pqa,1999\n1,1A,0D\n1,UA,A,,V,0.0325,0,0,-32767,32767,1,1,P\n60\n1\n1440,{samples}\n{first}\n{first}\nBINARY\n1\n"
-    )?;
-    Ok(text.into_bytes())
-}
-
 #[test]
 fn recordings_at_sixty_hertz(rt: HostRuntime) -> Result<(), Fail> {
     let alloc = rt.alloc();
@@ -55,8 +45,15 @@ fn recordings_at_sixty_hertz(rt: HostRuntime) -> Result<(), Fail> {
         (Signal::Halved, AFTER_NOON, 648, DIPPED),
         (Signal::Sine, BEFORE_NOON, 1440, OVER_TICK),
     ] {
-        let cfg = cfg(alloc, first, samples)?;
-        let bytes = dat(alloc, signal, samples)?;
+        let written = Written {
+            line: "60",
+            rate: "1440",
+            first,
+            samples,
+            ..WORKED
+        };
+        let cfg = cfg(alloc, written)?;
+        let bytes = dat(alloc, &[signal], samples)?;
         let ran = run(alloc, &WORDS, Some(&cfg), Some(&bytes), WHOLE)?;
         assert_eq!(rt; ran.status, Status::Done, "{samples} samples");
         assert_eq!(rt; ran.taken.as_slice(), text.as_bytes(), "{samples} samples");

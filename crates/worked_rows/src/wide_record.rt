@@ -1,10 +1,10 @@
 // The command `intervals` on records of a voltage, a current and 17 states: 16 bytes each.
-use crate::outside::{Outcome, Outside, WHOLE, run};
 use crate::reports::TWO_ROWS;
-use crate::signal::{Signal, count};
+use pq_base::OutOfMemory;
 use pq_run::{DatFault, Status};
 use std::alloc::{AllocError, Global};
 use std::test::Fail;
+use worked_signals::{Outcome, Outside, Signal, WHOLE, run};
 
 const WORDS: [&str; 5] = ["intervals", "--udin", "230000", "a.cfg", "a.dat"];
 
@@ -45,14 +45,14 @@ fn wide_dat(alloc: Global, first: u32) -> Result<Vec<u8>, AllocError> {
     for i in 0..552u32 {
         dat.extend_from_slice(&first.wrapping_add(i).to_le_bytes())?;
         dat.extend_from_slice(&(1000 - i).to_le_bytes())?;
-        dat.extend_from_slice(&count(Signal::Sine, i).to_le_bytes())?;
+        dat.extend_from_slice(&Signal::Sine.count(i).to_le_bytes())?;
         dat.extend_from_slice(&i16::MIN.to_le_bytes())?;
         dat.extend_from_slice(&[0xff, 0xff, 1, 0])?;
     }
     Ok(dat)
 }
 
-fn run_wide(alloc: Global, dat: &[u8], outside: Outside<'_>) -> Result<Outcome, Fail> {
+fn run_wide(alloc: Global, dat: &[u8], outside: Outside<'_>) -> Result<Outcome, OutOfMemory> {
     run(alloc, &WORDS, Some(CFG.as_bytes()), Some(dat), outside)
 }
 

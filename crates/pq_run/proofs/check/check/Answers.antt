@@ -2,14 +2,14 @@ use Rattle.std.proofs.Common.{◌≡◌, ◌⊎◌, Result, Ok, Err, refl, subst
 use Rattle.comtrade_cfg.specs.CfgText.{configuration_of}
 use Rattle.comtrade_cfg.specs.Configuration.{Configuration, cfg_view}
 use Rattle.cfg_fields.specs.declared.fault.CfgFault.TheVariants as fault
-use Rattle.pq_run.proofs.ReadingLemmas.{after_file, cfg_refuses, ends_refused, found_good, found_refused, goes_on_good, is_err, job, out_of_memory, quiet}
+use Rattle.pq_course.proofs.ReadingLemmas.{after_file, cfg_refuses, ends_refused, found_good, found_refused, goes_on_good, is_err, job, out_of_memory, quiet}
 use Rattle.pq_run.specs.Check.{canonical_course}
-use Rattle.pq_run.specs.Parts.{IsRead}
-use Rattle.pq_run.specs.Refusals.{cfg_refusal, or_refused}
-use Rattle.pq_run.specs.TopCall.{Reading, reading_of}
-use Rattle.pq_run.specs.Verdict.{Ends, Job}
-use Rattle.pq_run.specs.declared.status.Status.{Status}
-use Rattle.pq_run.specs.declared.status.Status.TheVariants as status
+use Rattle.pq_course.specs.Parts.{IsRead}
+use Rattle.status_text.specs.Refusals.{cfg_refusal, or_refused}
+use Rattle.pq_course.specs.TopCall.{Reading, reading_of}
+use Rattle.pq_course.specs.Verdict.{Ends, Job}
+use Rattle.status_text.specs.declared.status.Status.{Status}
+use Rattle.status_text.specs.declared.status.Status.TheVariants as status
 use Rattle.pq_words.specs.Text.{Text}
 use Rattle.pq_run.proofs.check.check.Goals as goal
 

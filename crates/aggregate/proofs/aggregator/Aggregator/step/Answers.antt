@@ -35,6 +35,8 @@ returns-clause-seen c =
     let now = aggregator_view c.step-short.new.self c.step-ten.new.self c.step_if-two.new.two_hours in
     let P : AggregatorView → Type 0 = λ a. SeesMore a now b in
     subst P c.self.view_is
-    (all_see i.shorts c.step-short.new.self i.tens c.step-ten.new.self i.two_hours c.step_if-two.new.two_hours b
-    c.step-ten.result c.self.invariant c.step-short.ensures.seen c.step-ten.ensures.value c.step-ten.ensures.seen
+    (all_see i.shorts c.step-short.new.self i.tens c.step-ten.new.self i.two_hours
+    c.step_if-two.new.two_hours b
+    c.step-ten.result c.self.invariant c.step-short.ensures.seen c.step-ten.ensures.value
+    c.step-ten.ensures.seen
     c.step-ten.ensures.same c.step_if-two.ensures.seen)

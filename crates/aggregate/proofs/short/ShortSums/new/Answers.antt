@@ -12,7 +12,12 @@ pub invariant_of-result : goal.invariant_of-result
 invariant_of-result c = record {
   few = c.requires;
   quiet = All-replicate (λ (r : Recent). AreQuiet r.values) 14
-      (record { begins = false; span = record { start = 0; end = 0 }; values = replicate 16 0; flagged = false })
+      (record {
+        begins = false;
+        span = record { start = 0; end = 0 };
+        values = replicate 16 0;
+        flagged = false;
+      })
       (All-replicate (λ value. value ≤ MOST_MICROVOLTS) 16 0 (omega arith));
 }
 

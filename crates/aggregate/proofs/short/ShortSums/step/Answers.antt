@@ -36,5 +36,6 @@ returns-clause-seen c =
     let P : ShortView → Type 0 = λ s. SeesMore s now b in
     subst P c.self.view_is
     (sees_of was now b refl
-    (pushed i.channels i.recent c.push.new.recent next c.args.front b.part c.push.ensures c.begins_next.ensures
+    (pushed i.channels i.recent c.push.new.recent next c.args.front b.part c.push.ensures
+    c.begins_next.ensures
     (ap (λ vs. part_of c.args.span vs c.args.flagged) values)))

@@ -64,7 +64,8 @@ returns-clause-value c = λ parts h.
       flagged = now.flagged || c.args.flagged;
       squares = c.add_squares.new.squares;
     }) (parts ++ part ∷ [])) (sym same.0)
-    (summed_more old now.start (now.flagged || c.args.flagged) c.add_squares.new.squares parts part before begun
+    (summed_more old now.start (now.flagged || c.args.flagged) c.add_squares.new.squares parts part before
+    begun
     (ap (λ (b : Bool). b || c.args.flagged) same.1)
     (λ k. c.add_squares.ensures k
     ∙ ap (λ (xs : List ℕ). slice_index xs k + square (slice_index c.args.values.now k)) same.2))

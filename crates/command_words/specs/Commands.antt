@@ -1,0 +1,99 @@
+-- The subject: the commands, and the words that say them (profile).
+use Rattle.std.specs.Prelude.{ℕ, if◌then◌else◌, List, [], ◌∷◌, map, Option, option_map, Result, Ok, Err, codes, String, string_bytes}
+use Rattle.std.specs.Str.{bytes_eq}
+use Rattle.std.specs.declared.alloc.Global.{Global}
+use Rattle.clap.specs.Words.{Row, first_of}
+use Rattle.command_words.specs.Simple.{check_app, measuring_app, said_by}
+use Rattle.command_words.specs.Values.{channel_of, channels_of, optional, settings_of, understood}
+use Rattle.command_words.specs.declared.command.Command.{Command}
+use Rattle.command_words.specs.declared.command.Command.TheVariants as command
+use Rattle.command_words.specs.declared.command.Measuring.{Measuring}
+use Rattle.command_words.specs.declared.command.WordsFault.{WordsFault}
+use Rattle.command_words.specs.declared.command.WordsFault.TheVariants as fault
+use Rattle.event_detect.specs.Threshold.{IsInRange}
+use Rattle.event_detect.specs.declared.limits.Settings.{Settings}
+use Rattle.pq_words.specs.FirstFault.{◌>>=◌}
+use Rattle.pq_words.specs.Text.{Text}
+
+-- what a recording is measured by, and the names of its files: channels and reference are numbers of channels
+pub record Measurement : Type 0 where
+  pub settings : Settings
+  pub channels : Option (List ℕ)
+  pub reference : Option ℕ
+  pub cfg : Text
+  pub dat : Text
+
+-- what a command is to do
+pub data Task : Type 0 where
+  Check : Text → Task
+  Intervals : Measurement → Task
+  Analyse : Measurement → Task
+
+-- the same as they are held in memory
+abbrev pub measuring_view : Measuring → Measurement
+measuring_view m = record {
+  settings = m.settings;
+  channels = option_map (λ numbers. numbers.items) m.channels;
+  reference = m.reference;
+  cfg = m.cfg.now;
+  dat = m.dat.now;
+}
+
+abbrev pub command_view : Command → Task
+command_view (command.Check cfg) = Check cfg.now
+command_view (command.Intervals m) = Intervals (measuring_view m)
+command_view (command.Analyse m) = Analyse (measuring_view m)
+
+-- what the options and the positionals of a measurement say
+unfoldable pub measured : List Row → Result Measurement WordsFault
+measured rows = do
+  settings ← settings_of rows
+  channels ← optional channels_of (first_of (codes "channels") rows)
+  reference ← optional channel_of (first_of (codes "reference") rows)
+  cfg ← understood (first_of (codes "cfg") rows)
+  dat ← understood (first_of (codes "dat") rows)
+  Ok (record {
+    settings = settings;
+    channels = channels;
+    reference = reference;
+    cfg = cfg;
+    dat = dat;
+  })
+
+-- what the words after the name of `intervals` or `analyse` say
+abbrev pub measurement_of : List Text → Result Measurement WordsFault
+measurement_of words = said_by measuring_app words >>= measured
+
+-- what the words after the name of `check` say
+unfoldable pub check_task : List Text → Result Task WordsFault
+check_task words = do
+  rows ← said_by check_app words
+  cfg ← understood (first_of (codes "cfg") rows)
+  Ok (Check cfg)
+
+abbrev pub then_task : (Measurement → Task) → Result Measurement WordsFault → Result Task WordsFault
+then_task task (Ok m) = Ok (task m)
+then_task task (Err why) = Err why
+
+-- the command of this name, with the words after it
+unfoldable pub named_task : Text → List Text → Result Task WordsFault
+named_task name words =
+    if bytes_eq name (codes "check") then check_task words
+    else (if bytes_eq name (codes "intervals") then then_task (λ m. Intervals m) (measurement_of words)
+    else (if bytes_eq name (codes "analyse") then then_task (λ m. Analyse m) (measurement_of words)
+    else Err fault.NotUnderstood))
+
+-- the first word is the name of a command; any other words are not understood
+abbrev pub task_of : List Text → Result Task WordsFault
+task_of [] = Err fault.NotUnderstood
+task_of (name ∷ words) = named_task name words
+
+-- the settings of a task can be asked for
+abbrev pub IsTask : Task → Type 0
+IsTask (Check cfg) = Unit {0}
+IsTask (Intervals m) = IsInRange m.settings
+IsTask (Analyse m) = IsInRange m.settings
+
+-- the words, as their bytes
+abbrev pub words_view : List (String Global) → List Text
+words_view words = map string_bytes words

@@ -1,0 +1,3 @@
+pub mod Commands
+pub mod Simple
+pub mod Values

@@ -1,0 +1,70 @@
+-- The subject: the values of options (profile).
+use Rattle.std.specs.Prelude.{ℕ, ◌≤◌, ◌&&◌, nat_le, if◌then◌else◌, List, [], ◌∷◌, ◌++◌, Option, None, Some, option_and_then, Result, Ok, Err, codes}
+use Rattle.std.specs.Option.{ok_or}
+use Rattle.clap.specs.Words.{Row, first_of}
+use Rattle.command_words.specs.declared.channels.TheConstants.{MOST_CHANNEL}
+use Rattle.command_words.specs.declared.command.WordsFault.{WordsFault}
+use Rattle.command_words.specs.declared.command.WordsFault.TheVariants as fault
+use Rattle.command_words.specs.declared.thresholds.TheConstants.{USUAL_DIP, USUAL_HYSTERESIS, USUAL_INTERRUPTION, USUAL_SWELL}
+use Rattle.event_detect.specs.declared.limits.Settings.{Settings}
+use Rattle.event_detect.specs.declared.limits.TheConstants.{MOST_THOUSANDTHS, MOST_UDIN}
+use Rattle.pq_words.specs.FirstFault.{◌>>=◌}
+use Rattle.pq_words.specs.Text.{Text, digits_between, parted_at}
+
+-- what isn't there is not understood
+abbrev pub understood : {A : Type 0} → Option A → Result A WordsFault
+understood found = ok_or found fault.NotUnderstood
+
+-- a text that may be left out
+abbrev pub optional : {A : Type 0} → (Text → Result A WordsFault) → Option Text → Result (Option A) WordsFault
+optional read None = Ok None
+optional read (Some text) = do
+  x ← read text
+  Ok (Some x)
+
+pub record IsBetween (low high n : ℕ) : Type 0 where
+  pub least : low ≤ n
+  pub most : n ≤ high
+
+-- the number that one to so many digits write, within its range
+abbrev pub number_between : ℕ → ℕ → ℕ → Text → Result ℕ WordsFault
+number_between digits least most text = understood (option_and_then
+    (λ n. if nat_le least n && nat_le n most then Some n else None) (digits_between 1 digits text))
+
+-- thousandths of the declared voltage: one to four digits, at most 2000; the usual value where there is no
+-- text
+abbrev pub thousandths_or : ℕ → Option Text → Result ℕ WordsFault
+thousandths_or usual None = Ok usual
+thousandths_or usual (Some text) = number_between 4 0 MOST_THOUSANDTHS text
+
+-- the number of a channel: one to three digits, from 1 to 999
+abbrev pub channel_of : Text → Result ℕ WordsFault
+channel_of text = number_between 3 1 MOST_CHANNEL text
+
+-- the numbers of channels that texts write, after those so far
+abbrev pub channels_after : List ℕ → List Text → Result (List ℕ) WordsFault
+channels_after so_far [] = Ok so_far
+channels_after so_far (text ∷ texts) = do
+  n ← channel_of text
+  channels_after (so_far ++ n ∷ []) texts
+
+-- one or more, parted by commas
+abbrev pub channels_of : Text → Result (List ℕ) WordsFault
+channels_of text = channels_after [] (parted_at 44 text)
+
+-- the settings: the declared voltage is one to ten digits, from 1 to 1,000,000,000 millivolts
+unfoldable pub settings_of : List Row → Result Settings WordsFault
+settings_of rows = do
+  udin ← understood (first_of (codes "udin") rows)
+  udin_mv ← number_between 10 1 MOST_UDIN udin
+  dip ← thousandths_or USUAL_DIP (first_of (codes "dip") rows)
+  swell ← thousandths_or USUAL_SWELL (first_of (codes "swell") rows)
+  interruption ← thousandths_or USUAL_INTERRUPTION (first_of (codes "interruption") rows)
+  hysteresis ← thousandths_or USUAL_HYSTERESIS (first_of (codes "hysteresis") rows)
+  Ok (record {
+    udin_mv = udin_mv;
+    dip = dip;
+    swell = swell;
+    interruption = interruption;
+    hysteresis = hysteresis;
+  })

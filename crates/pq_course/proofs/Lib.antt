@@ -1,0 +1,4 @@
+pub mod CourseLemmas
+pub mod FileLemmas
+pub mod PartLemmas
+pub mod ReadingLemmas

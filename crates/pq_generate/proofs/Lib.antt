@@ -1,0 +1,4 @@
+pub mod CountLemmas
+pub mod DisturbanceLemmas
+pub mod RecordLemmas
+pub mod StandardFacts

@@ -1,0 +1,12 @@
+mod PlainLemmas
+mod QuoteLemmas
+mod CuttingLemmas
+mod NamesLemmas
+mod DigitLemmas
+mod TickLemmas
+mod ReadingLaws
+mod FieldBackLemmas
+mod RowBackLemmas
+mod ItemBackLemmas
+mod ReadsBackLemmas
+mod StandardFacts

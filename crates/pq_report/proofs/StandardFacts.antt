@@ -1,0 +1,70 @@
+-- The definitions at rows and texts by hand.
+use Rattle.std.proofs.Common.{◌≡◌, [], ◌∷◌, true, false, pos, codes, Ok, Err, refl}
+use Rattle.std.specs.Fmt.{digits}
+use Rattle.jiff_core.specs.Calendar.{days_of_months}
+use Rattle.pq_items.specs.declared.item.Item.TheVariants as item
+use Rattle.pq_report.specs.ReportReading.{fields_read, header_read, item_read, kind_read, number_read, parts_read, report_read, rows_read, span_read}
+use Rattle.pq_report.specs.ReportText.{header, item_row, rows_text}
+use Rattle.pq_report.specs.declared.fault.ReportFault.TheVariants as fault
+use Rattle.pq_time.specs.Printed.{date_shown, printed_moment}
+use Rattle.pq_time.specs.Time.{time_of}
+use Rattle.pq_time.specs.declared.clock.Clock.{Clock}
+use Rattle.pq_words.specs.First.{first_between, first_of}
+
+-- from a second after noon of 1 March 2024, at 1200 Hz
+abbrev clock : Clock
+clock = record { t0 = pos 1709294401000000000; rate = 1200000000 }
+
+-- a record is clear or flagged, an event closed or open
+pub rows : rows_text clock
+    (item.Basic 1 24 264 10 229805362 false ∷ item.Basic 12 264 504 12 211869380 true ∷ item.Dip 1 252 336
+    114896273 false ∷ item.Interruption 1 0 1200 0 true ∷ item.Swell 999 12 24 253000001 false ∷ [])
+    ≡ codes
+    "kind,channel,start,end,from,to,tick,value,count,mark\nbasic,1,24,264,2024-03-01T12:00:01.020000000Z,2024-03-01T12:00:01.220000000Z,,229805362,10,clear\nbasic,12,264,504,2024-03-01T12:00:01.220000000Z,2024-03-01T12:00:01.420000000Z,,211869380,12,flagged\ndip,1,252,336,2024-03-01T12:00:01.210000000Z,2024-03-01T12:00:01.280000000Z,,114896273,0,closed\ninterruption,1,0,1200,2024-03-01T12:00:01.000000000Z,2024-03-01T12:00:02.000000000Z,,0,0,open\nswell,999,12,24,2024-03-01T12:00:01.010000000Z,2024-03-01T12:00:01.020000000Z,,253000001,0,closed\n"
+unfolding header item_row time_of printed_moment date_shown days_of_months first_between first_of digits
+rows = refl
+
+-- a reading, and a ten-minute record at a rate that divides no second, each with its tick
+pub rows_with_ticks : (item_row (record { t0 = pos 1709294409995000000; rate = 1200000000 })
+    (item.Frequency (pos 1709294410) 6 12006 499 50000000 false)
+    ≡ codes
+    "freq,0,6,12006,2024-03-01T12:00:10.000000000Z,2024-03-01T12:00:20.000000000Z,2024-03-01T12:00:10.000000000Z,50000000,499,clear\n")
+    × (item_row (record { t0 = pos 1709294399000000000; rate = 1199000000 })
+    (item.Ten 1 (pos 1709294400) 1200 720720 2998 229805362 false)
+    ≡ codes
+    "ten,1,1200,720720,2024-03-01T12:00:00.000834028Z,2024-03-01T12:10:00.100917431Z,2024-03-01T12:00:00.000000000Z,229805362,2998,clear\n")
+unfolding item_row time_of printed_moment date_shown days_of_months first_between first_of digits
+rows_with_ticks = (refl, refl)
+
+-- a basic interval and an open dip, read back
+pub items_read : report_read clock (codes
+    "kind,channel,start,end,from,to,tick,value,count,mark\nbasic,1,24,264,2024-03-01T12:00:01.020000000Z,2024-03-01T12:00:01.220000000Z,,229805362,10,clear\ndip,1,252,336,2024-03-01T12:00:01.210000000Z,2024-03-01T12:00:01.280000000Z,,114896273,0,open\n")
+    ≡ Ok (item.Basic 1 24 264 10 229805362 false ∷ item.Dip 1 252 336 114896273 true ∷ [])
+unfolding parts_read rows_read header_read fields_read span_read item_read kind_read number_read time_of
+    printed_moment date_shown days_of_months first_between first_of digits
+items_read = refl
+
+-- 265 for 264: the moment doesn't fit the place
+pub moment_at_fault : report_read clock (codes
+    "kind,channel,start,end,from,to,tick,value,count,mark\nbasic,1,24,265,2024-03-01T12:00:01.020000000Z,2024-03-01T12:00:01.220000000Z,,229805362,10,clear\n")
+    ≡ Err (fault.Field 2 6)
+unfolding parts_read rows_read header_read fields_read span_read item_read kind_read number_read time_of
+    printed_moment date_shown days_of_months first_between first_of digits
+moment_at_fault = refl
+
+-- no header, one of another order, and a header without a line end
+pub headers_at_fault : (report_read clock [] ≡ Err (fault.Field 1 0))
+    × (report_read clock (codes "kind,channel,start,end,from,to,value,tick,count,mark\n") ≡ Err (fault.Field 1 7))
+    × (report_read clock (codes "kind,channel,start,end,from,to,tick,value,count,mark") ≡ Err (fault.Field 1 0))
+unfolding parts_read rows_read header_read
+headers_at_fault = (refl, refl, refl)
+
+-- nine fields, a place with a leading zero, and a row without a line end
+pub rows_at_fault : (report_read clock (codes
+    "kind,channel,start,end,from,to,tick,value,count,mark\na,b,c,d,e,f,g,h,i\n") ≡ Err (fault.Field 2 0))
+    × (report_read clock (codes
+    "kind,channel,start,end,from,to,tick,value,count,mark\ntwo,7,024,d,e,f,g,h,i,j\n") ≡ Err (fault.Field 2 3))
+    × (report_read clock (codes
+    "kind,channel,start,end,from,to,tick,value,count,mark\ntwo") ≡ Err (fault.Field 2 0))
+unfolding parts_read rows_read header_read fields_read span_read item_read kind_read number_read digits
+rows_at_fault = (refl, refl, refl)

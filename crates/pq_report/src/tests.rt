@@ -1,0 +1,270 @@
+// Texts of reports by hand, read back, and the first fault of texts that are none.
+use crate::{ReportFault, header, read_report, report, row};
+use pq_items::Item;
+use pq_time::Clock;
+use std::alloc::{AllocError, Global};
+use std::cmp::Ordering;
+use std::process::Abort;
+use std::test::Fail;
+
+const HEAD: &str = "kind,channel,start,end,from,to,tick,value,count,mark\n";
+
+// The rows of two_intervals.
+const FIRST: &str =
+    "basic,1,24,264,2024-03-01T12:00:01.020000000Z,2024-03-01T12:00:01.220000000Z,,229805362,10,clear\n";
+
+const SECOND: &str =
+    "basic,1,264,504,2024-03-01T12:00:01.220000000Z,2024-03-01T12:00:01.420000000Z,,229805362,10,clear\n";
+
+// From a second after noon of 1 March 2024, at 1200 Hz.
+fn clock() -> Clock {
+    Clock {
+        t0: 1_709_294_401_000_000_000,
+        rate: 1_200_000_000,
+    }
+}
+
+fn basic(start: u64, end: u64) -> Item {
+    Item::Basic {
+        channel: 1,
+        start,
+        end,
+        cycles: 10,
+        value: 229_805_362,
+        flagged: false,
+    }
+}
+
+fn joined(alloc: Global, pieces: &[&str]) -> Result<Vec<u8>, AllocError> {
+    let mut text = Vec::new(alloc);
+    for piece in pieces {
+        text.extend_from_slice(piece.as_bytes())?;
+    }
+    Ok(text)
+}
+
+// What a text is read as: so many items, or its first fault.
+fn at(row: u64, field: u32) -> Result<usize, ReportFault> {
+    Err(ReportFault::Field { row, field })
+}
+
+fn count(alloc: Global, text: &[u8]) -> Result<usize, ReportFault> {
+    Ok(read_report(alloc, &clock(), text)?.len())
+}
+
+#[test]
+fn report_read_back(rt: HostRuntime) -> Result<(), Fail> {
+    let alloc = rt.alloc();
+    let items = [basic(24, 264), basic(264, 504)];
+    let text = joined(alloc, &[HEAD, FIRST, SECOND])?;
+    let read = read_report(alloc, &clock(), text.as_slice());
+    assert!(rt; read.is_ok());
+    let read = read?;
+    assert_eq!(rt; read.len(), 2);
+    for (found, wanted) in read.iter().zip(&items) {
+        assert!(rt; found.compare(wanted) == Ordering::Equal);
+    }
+    let written = report(alloc, &clock(), &items)?;
+    assert!(rt; written.bytes() == text.as_slice());
+    assert!(rt; header(alloc)?.bytes() == HEAD.as_bytes());
+    assert!(rt; row(alloc, &clock(), &items[1])?.bytes() == SECOND.as_bytes());
+    Ok(())
+}
+
+#[test]
+fn first_faults(rt: HostRuntime) -> Result<(), Fail> {
+    let alloc = rt.alloc();
+    let cases: [(&[&str], Result<usize, ReportFault>); 28] = [
+        (&[HEAD, FIRST, SECOND], Ok(2)),
+        (&[HEAD], Ok(0)),
+        (
+            &[
+                HEAD,
+                "freq,0,10800,22800,2024-03-01T12:00:10.000000000Z,2024-03-01T12:00:20.000000000Z,2024-03-01T12:00:10.000000000Z,50000000,499,clear\n",
+                "dip,12,0,24,2024-03-01T12:00:01.000000000Z,2024-03-01T12:00:01.020000000Z,,0,0,open\n",
+            ],
+            Ok(2),
+        ),
+        (&[], at(1, 0)),
+        (
+            &["kind,channel,start,end,from,to,value,tick,count,mark\n"],
+            at(1, 7),
+        ),
+        (&["kind\n"], at(1, 0)),
+        (&[HEAD, "\n"], at(2, 0)),
+        (
+            &[
+                HEAD,
+                "basic,1,24,265,2024-03-01T12:00:01.020000000Z,2024-03-01T12:00:01.220000000Z,,229805362,10,clear\n",
+                SECOND,
+            ],
+            at(2, 6),
+        ),
+        (
+            &[
+                HEAD,
+                FIRST,
+                "basic,1,264,504,2024-03-01T12:00:01.220000000Z,2024-03-01T12:00:01.420000000Z,,229805362,10\n",
+            ],
+            at(3, 0),
+        ),
+        (
+            &[
+                HEAD,
+                "basic,1,24,264,2024-03-01T12:00:01.020000000Z,2024-03-01T12:00:01.220000000Z,,229805362,10,clear,\n",
+            ],
+            at(2, 0),
+        ),
+        (
+            &[
+                HEAD,
+                "\"basic\",1,24,264,2024-03-01T12:00:01.020000000Z,2024-03-01T12:00:01.220000000Z,,229805362,10,clear\n",
+            ],
+            at(2, 1),
+        ),
+        (
+            &[
+                HEAD,
+                "basic,1,24,264,2024-03-01T12:00:01.020000000Z,2024-03-01T12:00:01.220000000Z,,229805362,10,clear\r\n",
+            ],
+            at(2, 10),
+        ),
+        (
+            &[
+                HEAD,
+                "basic,0,24,264,2024-03-01T12:00:01.020000000Z,2024-03-01T12:00:01.220000000Z,,229805362,10,clear\n",
+            ],
+            at(2, 2),
+        ),
+        (
+            &[
+                HEAD,
+                "basic,1000,24,264,2024-03-01T12:00:01.020000000Z,2024-03-01T12:00:01.220000000Z,,229805362,10,clear\n",
+            ],
+            at(2, 2),
+        ),
+        (
+            &[
+                HEAD,
+                "freq,1,10800,22800,2024-03-01T12:00:10.000000000Z,2024-03-01T12:00:20.000000000Z,2024-03-01T12:00:10.000000000Z,50000000,499,clear\n",
+            ],
+            at(2, 2),
+        ),
+        (
+            &[
+                HEAD,
+                "basic,1,024,264,2024-03-01T12:00:01.020000000Z,2024-03-01T12:00:01.220000000Z,,229805362,10,clear\n",
+            ],
+            at(2, 3),
+        ),
+        (
+            &[
+                HEAD,
+                "basic,1,+24,264,2024-03-01T12:00:01.020000000Z,2024-03-01T12:00:01.220000000Z,,229805362,10,clear\n",
+            ],
+            at(2, 3),
+        ),
+        (
+            &[
+                HEAD,
+                "basic,1,24,50000001,2024-03-01T12:00:01.020000000Z,2024-03-01T12:00:01.220000000Z,,229805362,10,clear\n",
+            ],
+            at(2, 4),
+        ),
+        (
+            &[
+                HEAD,
+                "basic,1,24,264,2024-03-01T12:00:01.220000000Z,2024-03-01T12:00:01.220000000Z,,229805362,10,clear\n",
+            ],
+            at(2, 5),
+        ),
+        (
+            &[
+                HEAD,
+                "basic,1,24,264,2024-03-01T12:00:01.020000000Z,2024-03-01T12:00:01.220000000Z,2024-03-01T12:00:01.220000000Z,229805362,10,clear\n",
+            ],
+            at(2, 7),
+        ),
+        (
+            &[
+                HEAD,
+                "freq,0,10800,22800,2024-03-01T12:00:10.000000000Z,2024-03-01T12:00:20.000000000Z,,50000000,499,clear\n",
+            ],
+            at(2, 7),
+        ),
+        (
+            &[
+                HEAD,
+                "freq,0,10800,22800,2024-03-01T12:00:10.000000000Z,2024-03-01T12:00:20.000000000Z,2024-02-30T12:00:10.000000000Z,50000000,499,clear\n",
+            ],
+            at(2, 7),
+        ),
+        (
+            &[
+                HEAD,
+                "freq,0,10800,22800,2024-03-01T12:00:10.000000000Z,2024-03-01T12:00:20.000000000Z,2024-03-01T12:00:10.000000001Z,50000000,499,clear\n",
+            ],
+            at(2, 7),
+        ),
+        (
+            &[
+                HEAD,
+                "freq,0,10800,22800,2024-03-01T12:00:10.000000000Z,2024-03-01T12:00:20.000000000Z,2300-03-01T12:00:10.000000000Z,50000000,499,clear\n",
+            ],
+            at(2, 7),
+        ),
+        (
+            &[
+                HEAD,
+                "basic,1,24,264,2024-03-01T12:00:01.020000000Z,2024-03-01T12:00:01.220000000Z,,18446744073709551616,10,clear\n",
+            ],
+            at(2, 8),
+        ),
+        (
+            &[
+                HEAD,
+                "basic,1,24,264,2024-03-01T12:00:01.020000000Z,2024-03-01T12:00:01.220000000Z,,229805362,11,clear\n",
+            ],
+            at(2, 9),
+        ),
+        (
+            &[
+                HEAD,
+                "dip,12,0,24,2024-03-01T12:00:01.000000000Z,2024-03-01T12:00:01.020000000Z,,0,0,flagged\n",
+            ],
+            at(2, 10),
+        ),
+        (
+            &[
+                HEAD,
+                "basic,1,24,264,2024-03-01T12:00:01.020000000Z,2024-03-01T12:00:01.220000000Z,,229805362,10,closed\n",
+            ],
+            at(2, 10),
+        ),
+    ];
+    for (pieces, expected) in cases {
+        let text = joined(alloc, pieces)?;
+        assert!(rt; count(alloc, text.as_slice()) == expected);
+    }
+    Ok(())
+}
+
+// A report cut at each byte: all rows that are whole, or the fault of the last.
+#[test]
+fn cut_at_each_byte(rt: HostRuntime) -> Result<(), Fail> {
+    let alloc = rt.alloc();
+    let text = joined(alloc, &[HEAD, FIRST, SECOND])?;
+    let text = text.as_slice();
+    for end in 0..text.len() {
+        let (front, rest) = text.split_at(end);
+        let rows = front.iter().filter(|byte| **byte == b'\n').count() as u64;
+        let expected = if front.last() == Some(&b'\n') {
+            Ok(rows as usize - 1)
+        } else {
+            at(rows + 1, 0)
+        };
+        assert!(rt; count(alloc, front) == expected, "at {end}");
+        let _rest = rest;
+    }
+    Ok(())
+}

@@ -1,6 +1,0 @@
-use Rattle.std.proofs.Common.{rules, append_assoc}
-use Rattle.pq_run.proofs.report.push_span.Goals as goal
-
--- one piece after another
-pub returns : goal.returns
-returns c = search (rules, append_assoc)

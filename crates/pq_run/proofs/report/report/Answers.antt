@@ -1,6 +1,0 @@
-use Rattle.pq_run.specs.ReportText.{header}
-use Rattle.pq_run.proofs.report.report.Goals as goal
-
-pub loop-item-init : goal.loop-item-init
-unfolding header
-loop-item-init c = c.in_ok-text.ensures.items

@@ -1,0 +1,4 @@
+pub mod EventLists
+pub mod FirstStart
+pub mod Queue
+pub mod SupplyEvents
