@@ -39,7 +39,8 @@ of_eq a b h = grind (arith, nat_tests, h)
 
 -- ---- a run that begins after another
 
-module _ (clock : Clock) (n m : ℕ) (boundaries : List ℕ) (are : AreBoundaries boundaries n) (some : 1 ≤ m) where
+module _ (clock : Clock) (n m : ℕ) (boundaries : List ℕ) (are : AreBoundaries boundaries n)
+    (some : 1 ≤ m) where
   abbrev places : List ℕ
   places = tick_places clock n
 
@@ -86,7 +87,8 @@ module _ (clock : Clock) (n m : ℕ) (boundaries : List ℕ) (are : AreBoundarie
       let inside : y < length boundaries = omega (arith, next.below, some) in
       let found = front_until boundaries p y between.3 inside in
       let g = found.0 in
-      let ahead : x < g = front_after boundaries p n g x are found.1 between.2 (omega (arith, inside, next.after)) in
+      let ahead : x < g = front_after boundaries p n g x are found.1 between.2
+      (omega (arith, inside, next.after)) in
       let is = front_in boundaries places p g place found.1 in
       let until = found.2 in
       front_is y (elim (cases_lt g y) [
@@ -128,7 +130,8 @@ module _ (clock : Clock) (n m : ℕ) (boundaries : List ℕ) (are : AreBoundarie
     -- basic intervals over runs from the fronts on come in order
     pub runs_in_order :
         BeginsAtFront (basics_over r events boundaries starts (runs starts m (length boundaries - 1)))
-        × Linked (Follows clock n) (basics_over r events boundaries starts (runs starts m (length boundaries - 1)))
+        × Linked (Follows clock n)
+        (basics_over r events boundaries starts (runs starts m (length boundaries - 1)))
     unfolding runs numbers_from
     runs_in_order = subst (λ bs. BeginsAtFront bs × Linked (Follows clock n) bs)
         (sym (mapped (filter (begins_run starts m) (numbers_from 0 (length boundaries - 1 + 1 - m)))))
@@ -146,7 +149,8 @@ module _ (clock : Clock) (n m : ℕ) (boundaries : List ℕ) (are : AreBoundarie
             subst (λ b. BeginsAtFront (map basic_at (cond b (0 ∷ rest) rest))
             × Linked (Follows clock n) (map basic_at (cond b (0 ∷ rest) rest))) (sym begins_first) (
               front_is 0 (zero_in boundaries places),
-              linked_mapped (IsNext (begins_run starts m) (length boundaries - 1 + 1 - m)) (Follows clock n) basic_at
+              linked_mapped (IsNext (begins_run starts m) (length boundaries - 1 + 1 - m)) (Follows clock n)
+                  basic_at
                   follows 0 rest next,
             )
 

@@ -52,7 +52,8 @@ increasing_rises x (y ∷ ys) h =
     let first = h 0 (omega arith) in
     let rest : IsStrictlyIncreasing (y ∷ ys) = λ k inside.
     let step : suc k + 1 ≡ suc (k + 1) = omega arith in
-    subst (λ j. slice_index (y ∷ ys) k < slice_index (x ∷ y ∷ ys) j) step (h (suc k) (omega (arith, inside))) in
+    subst (λ j. slice_index (y ∷ ys) k < slice_index (x ∷ y ∷ ys) j) step
+    (h (suc k) (omega (arith, inside))) in
     (omega (arith, first), increasing_rises y ys rest)
 
 -- they rise, where the places do
@@ -127,7 +128,8 @@ module _ (boundaries : List ℕ) (p : ℕ) where
           | inl below ↦ let rise = are.rising g x 0 below inside in absurd (omega (arith, rise, until, over))
           | inr up ↦
               let same : g ≡ x = omega (arith, back, up) in
-              let e : slice_index boundaries g ≡ slice_index boundaries x = ap (slice_index boundaries) same in
+              let e : slice_index boundaries g ≡ slice_index boundaries x =
+              ap (slice_index boundaries) same in
               absurd (omega (arith, e, until, over))
         ]
       ]

@@ -45,7 +45,8 @@ items_of_basics r (b ∷ bs) = ap (λ items. items_of_basic r b ++ items) (items
 -- ---- kind by kind
 
 -- intervals of each length, as items
-pub seen_intervals : (r : Recorded) (events : List Event) (found : RecordedIntervals) → AreIntervals r events found →
+pub seen_intervals : (r : Recorded) (events : List Event) (found : RecordedIntervals) →
+    AreIntervals r events found →
     intervals_seen r found
     ≡ (let basics = basics_of r events (reference_cycles r) in
     let tens = tens_of r basics in

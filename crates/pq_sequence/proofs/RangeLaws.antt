@@ -123,19 +123,22 @@ group_in n tick channels parts lie known = record {
   tick = known;
 }
 
-module _ (clock : Clock) (n channels : ℕ) (is : IsClock clock) (short : n ≤ MOST_SAMPLES) (basics : List Basic)
-    (lie : All (λ b. Lies n b.part) basics) where
+module _ (clock : Clock) (n channels : ℕ) (is : IsClock clock) (short : n ≤ MOST_SAMPLES)
+    (basics : List Basic) (lie : All (λ b. Lies n b.part) basics) where
   range_lies : (a b : ℕ) → All (Lies n) (parts_of (slice_range basics a b))
   range_lies a b = All-map (Lies n) (λ b. b.part) (slice_range basics a b)
       (All-take (λ b. Lies n b.part) _ (drop a basics) (All-drop (λ b. Lies n b.part) a basics lie))
 
   shorts_in : All (IsIn n) (short_groups channels basics)
   unfolding short_groups
-  shorts_in = All-map (IsIn n) (λ run. group_of None channels (parts_of (slice_range basics run.start run.end)))
+  shorts_in = All-map (IsIn n)
+      (λ run. group_of None channels (parts_of (slice_range basics run.start run.end)))
       _ (λ k d inside. let run = slice_index_or _ k d in
-      group_in n None channels (parts_of (slice_range basics run.start run.end)) (range_lies run.start run.end) tt)
+      group_in n None channels (parts_of (slice_range basics run.start run.end))
+      (range_lies run.start run.end) tt)
 
-  ten_in : (tick next : ℤ) → IsTickInRange tick → IfSome (ten_group clock n channels basics tick next) (IsIn n)
+  ten_in : (tick next : ℤ) → IsTickInRange tick →
+      IfSome (ten_group clock n channels basics tick next) (IsIn n)
   unfolding ten_group segment_of
   ten_in tick next known =
       at (first_between (is_front_from basics (tick_place clock n tick)) 0 (length basics))
@@ -167,7 +170,8 @@ module _ (clock : Clock) (n channels : ℕ) (is : IsClock clock) (short : n ≤ 
     unfolding two_hour_group
     two_hour_in tick known =
         let twelve = filter_map (λ t. find (has_tick t) tens) (steps_from tick 600 12) in
-        let all : All (IsIn n) twelve = all_found (IsIn n) (λ t. find (has_tick t) tens) (steps_from tick 600 12)
+        let all : All (IsIn n) twelve =
+        all_found (IsIn n) (λ t. find (has_tick t) tens) (steps_from tick 600 12)
         (λ k d inside. found (IsIn n) (has_tick _) tens are) in
         one_of (IsIn n) (length twelve == 12) (Some (group_of (Some tick) channels (map as_part twelve))) None
         (group_in n (Some tick) channels (map as_part twelve)
@@ -353,7 +357,10 @@ module _ (r : Recorded) (is : IsRecording r) where
       let lie : All (λ k. k < sample_count r) boundaries =
       subst (λ n. All (λ k. k < n) boundaries) same all.below in
       All-map (λ b. Lies (sample_count r) b.part) _ (runs_of r boundaries)
-      (λ k d inside. (looked_up boundaries _ (sample_count r) lie, looked_up boundaries _ (sample_count r) lie))
+      (λ k d inside. (
+        looked_up boundaries _ (sample_count r) lie,
+        looked_up boundaries _ (sample_count r) lie,
+      ))
 
   -- all items of a recording are in range
   pub items_in_range : (limits : Limits) → All IsItemInRange (all_items r limits)

@@ -75,7 +75,8 @@ from_there n o (z ∷ zs) x g rises (inl same) h =
     let passes : nat_le z x ≡ true = of_le z x (subst (λ k. k ≤ x) same h) in
     let r = from_later z zs x rises.1 in (
       r.0,
-      ap (λ b. last_or o (cond b (z ∷ filter (λ k. nat_le k x) zs) (filter (λ k. nat_le k x) zs))) passes ∙ r.1,
+      ap (λ b. last_or o (cond b (z ∷ filter (λ k. nat_le k x) zs) (filter (λ k. nat_le k x) zs))) passes
+          ∙ r.1,
       omega (arith, r.2, same),
     )
 from_there n o (z ∷ zs) x g rises (inr later) h =
@@ -83,7 +84,8 @@ from_there n o (z ∷ zs) x g rises (inr later) h =
   where
     at : (b : Bool) → ((p : Option ℕ) → (r : ℕ) × (latest_from p zs x ≡ Some r) × (g ≤ r))
         → (r : ℕ)
-        × (last_or o (cond b (z ∷ filter (λ k. nat_le k x) zs) (filter (λ k. nat_le k x) zs)) ≡ Some r) × (g ≤ r)
+        × (last_or o (cond b (z ∷ filter (λ k. nat_le k x) zs) (filter (λ k. nat_le k x) zs)) ≡ Some r)
+        × (g ≤ r)
     at true rest = rest (Some z)
     at false rest = rest o
 
@@ -172,9 +174,11 @@ not_so_near starts m x y s rises at whole begins below order near =
     (sym from_x.1 ∙ same_latest starts x y s rises at below (omega (arith, order))) in
     let back : (y - s) - (y - x) ≡ x - s = omega (arith, below, order) in
     let part : 0 < ((y - s) - (y - x)) % m =
-    not_whole (y - s) (y - x) m (omega (arith, order)) (omega (arith, near, order)) (omega (arith, below, order))
+    not_whole (y - s) (y - x) m (omega (arith, order)) (omega (arith, near, order))
+    (omega (arith, below, order))
     whole in
-    let none : ((y - s) - (y - x)) % m ≡ 0 = ap (λ k. k % m) back ∙ ap (λ k. (x - k) % m) (sym same) ∙ from_x.2 in
+    let none : ((y - s) - (y - x)) % m ≡ 0 = ap (λ k. k % m) back ∙ ap (λ k. (x - k) % m) (sym same)
+    ∙ from_x.2 in
     omega (arith, part, none)
 
 -- a run that begins at no start follows the one before it

@@ -52,7 +52,8 @@ recorded samples = from_noon (pos 1000) samples
 -- what a result computes by
 unfoldable computed : Recorded → Limits → List Item
 unfolding sequential items_under readings reading_of short_groups ten_groups ten_group segment_of
-    two_hour_groups two_hour_group group_of marked root_mean mean_of_squares all_polyphase_events merged_windows conditions begins ends latest limits_of
+    two_hour_groups two_hour_group group_of marked root_mean mean_of_squares
+    all_polyphase_events merged_windows conditions begins ends latest limits_of
     class_of is_touched event_from extents event_over events
     tick_places ticks place_of time_of fronts front_of basic_runs runs windows window_between windows_over
     root_in isqrt mean_square rms rule_of first_boundary next_boundary boundaries cycle_boundaries first_of

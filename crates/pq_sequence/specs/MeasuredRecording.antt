@@ -71,7 +71,8 @@ recorded_events r limits =
 
 -- the root of the samples of each channel over a span (5.2)
 abbrev pub roots_over : Recorded → Span → List ℕ
-roots_over r span = map (λ position. rms (slice_range (samples_at r position) span.start span.end)) (positions r)
+roots_over r span =
+    map (λ position. rms (slice_range (samples_at r position) span.start span.end)) (positions r)
 
 -- the basic interval over a span (5.2): flagged, on all channels alike, where some event of the whole
 -- recording, of any kind and channel, touches the span (4.7)

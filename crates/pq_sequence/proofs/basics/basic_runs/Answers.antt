@@ -30,7 +30,8 @@ returns-clause-rising c =
     let n = length c.args.boundaries.now in
     let cycles = cycles_of c.args.lf in
     let all = runs c.args.fronts.now cycles (n - 1) in
-    IfOk-weaker c.map_err.result (λ found. found.items ≡ all) (λ found. IsNonDecreasing (run_starts found.items))
+    IfOk-weaker c.map_err.result (λ found. found.items ≡ all)
+    (λ found. IsNonDecreasing (run_starts found.items))
     (λ found is. subst (λ xs. IsNonDecreasing (run_starts xs)) (sym is)
     (runs_rise c.args.fronts.now cycles (n - 1)))
     (returns-clause-value c)

@@ -59,7 +59,8 @@ loop-run-preserved c =
           below_later run.start (slice_index starts j) fronts c.front_from-next.result
           (omega (arith, later, at)) c.front_from-next.ensures.before;
       value = λ events are.
-          let over = λ (run : Span). basic_over r events (basic_span boundaries run) (begins_segment fronts run) in
+          let over = λ (run : Span).
+          basic_over r events (basic_span boundaries run) (begins_segment fronts run) in
           let here : seen b ≡ over run = c.basic.ensures.value events are
           ∙ ap (λ span. basic_over r events span c.is_at-front.result) c.span_of.ensures
           ∙ ap (basic_over r events (basic_span boundaries run)) c.is_at-front.ensures in

@@ -29,7 +29,8 @@ step-requires c =
     let first = basic_seen channels none in
     let may = may_be_fed c.args.clock c.args.n channels a c.loop-basic.invariant.setting seen
     c.requires.basics in
-    let inside : i < length seen = omega (arith, c.loop-basic-test.true, length-map basics (basic_seen channels)) in
+    let inside : i < length seen =
+    omega (arith, c.loop-basic-test.true, length-map basics (basic_seen channels)) in
     subst (MayFollow a) (get_or-map (basic_seen channels) basics i none first c.loop-basic-test.true)
     (gives_groups.follows seen a i first inside may c.loop-basic.invariant.seen)
 
@@ -46,7 +47,8 @@ loop-basic-preserved c =
     let set = c.loop-basic.invariant.setting in
     let first = basic_seen channels none in
     let may = may_be_fed clock n channels a set seen c.requires.basics in
-    let inside : i < length seen = omega (arith, c.loop-basic-test.true, length-map basics (basic_seen channels)) in
+    let inside : i < length seen =
+    omega (arith, c.loop-basic-test.true, length-map basics (basic_seen channels)) in
     let at = get_or-map (basic_seen channels) basics i none first c.loop-basic-test.true in
     let adds = gives_groups.adds seen a i first c.step.result inside may c.loop-basic.invariant.seen
     (subst (λ b. Completes a b c.step.result) (sym at) c.step.ensures.value) in

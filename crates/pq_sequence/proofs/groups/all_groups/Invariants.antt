@@ -8,5 +8,6 @@ abbrev pub invariant-loop-basic : goal.invariant-loop-basic
 invariant-loop-basic l = record {
   seen : HasSeen l.aggregator (take l.basic-index (basics_seen l.channels l.basics));
   setting : HasSetting l.aggregator l.fn.clock l.n l.channels;
-  groups : AreGroupsOf l.fn.clock l.n l.channels (take l.basic-index (basics_seen l.channels l.basics)) l.groups;
+  groups : AreGroupsOf l.fn.clock l.n l.channels (take l.basic-index (basics_seen l.channels l.basics))
+      l.groups;
 }
