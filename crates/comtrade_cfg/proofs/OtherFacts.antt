@@ -24,9 +24,9 @@ with_cr_lf lines = flat_map (λ line. line ++ 13 ∷ 10 ∷ []) lines
 -- the canonical text of two_intervals has its lines, ended by CR LF
 pub canonical : option_map canonical_text (result_ok (configuration_of demo)) ≡ Some (with_cr_lf demo_lines)
 unfolding digits canonical_text date_shown first_between first_of text_field number_field position_field
-    decimal_text decimal_field channel_count frequency_field rate_field samples_field leap_field station_fields analogue_fields
-    status_fields configuration_of configuration_ahead lines_behind channel_lines decimal_of written_moment
-    date_of time_of
+    decimal_text decimal_field channel_count frequency_field rate_field samples_field leap_field
+    station_fields analogue_fields status_fields configuration_of configuration_ahead lines_behind
+    channel_lines decimal_of written_moment date_of time_of
     days_from_civil day_count days_of_years days_of_months
 canonical = refl
 
@@ -70,8 +70,8 @@ canonical_32 = with_cr_lf (codes "Substation 7,R-2200,2013" ∷ codes "40,8A,32D
 pub printed_2013 : option_map {U = ℤ × Text} (λ c. (c.first, canonical_text c))
     (result_ok (configuration_of cfg_32)) ≡ Some (pos 1709294401000000000, canonical_32)
 unfolding digits canonical_text date_shown first_between first_of text_field number_field position_field
-    decimal_text decimal_field channel_count frequency_field rate_field samples_field leap_field station_fields analogue_fields
-    status_fields configuration_of configuration_ahead lines_behind channel_lines decimal_of written_moment
+    decimal_text decimal_field channel_count frequency_field rate_field samples_field leap_field
+    station_fields analogue_fields status_fields configuration_of configuration_ahead lines_behind channel_lines decimal_of written_moment
     date_of time_of
     code_of minutes_of days_from_civil day_count days_of_years days_of_months
 printed_2013 = refl

@@ -1,5 +1,5 @@
 -- Rows that haven't ten fields.
-use Rattle.std.proofs.Common.{◌≡◌, ◌≢◌, ℕ, suc, ◌+◌, ◌≤◌, Bool, false, List, [], ◌∷◌, length, refl, sym, ap, ◌∙◌, arith, Err}
+use Rattle.std.proofs.Common.{◌≡◌, ◌≢◌, suc, ◌≤◌, false, List, [], ◌∷◌, length, refl, ap, arith, Err}
 use Rattle.pq_report.specs.ReportReading.{are_ten, fields_read}
 use Rattle.pq_time.specs.declared.clock.Clock.{Clock}
 use Rattle.pq_time.proofs.FieldLemmas.{some_part}
@@ -28,7 +28,14 @@ length_three a b c all rest is = ap length is
 pub few_fields : (a b c d e f : Text) (all one two : List Text) → all ≡ a ∷ b ∷ c ∷ one → one
     ≡ d ∷ e ∷ f ∷ two → length two ≤ 3 → are_ten all ≡ false
 few_fields a b c d e f all one two is next few =
-    not_ten all (λ ten. omega (arith, ten, few, length_three a b c all one is, length_three d e f one two next))
+    not_ten all (λ ten. omega (
+      arith,
+      ten,
+      few,
+      length_three a b c all one is,
+      length_three d e f one two
+          next,
+    ))
 
 -- nine fields, and two at least behind them
 pub many_fields : (a b c d e f g h i x y : Text) (all one two three : List Text) → all ≡ a ∷ b ∷ c ∷ one → one

@@ -1,5 +1,5 @@
 -- Each field is told by its value, and each value by its field.
-use Rattle.std.proofs.Common.{◌≡◌, ℕ, ◌+◌, ◌-◌, ◌*◌, ◌/◌, ◌%◌, ◌^◌, ◌<◌, ◌≤◌, Bool, true, false, not, ◌&&◌, ◌||◌, ◌==◌, nat_le, nat_lt, if◌then◌else◌, List, [], ◌∷◌, ◌++◌, length, ℤ, pos, Option, Some, None, IfSome, option_map, option_and_then, find, bytes_eq, decimal, refl, sym, ap, ◌∙◌, subst, arith, ◌⊎◌, inl, inr}
+use Rattle.std.proofs.Common.{◌≡◌, ℕ, ◌+◌, ◌%◌, ◌^◌, ◌<◌, Bool, true, false, ◌&&◌, nat_le, nat_lt, if◌then◌else◌, List, [], ◌∷◌, length, ℤ, Option, Some, None, option_map, find, bytes_eq, decimal, refl, sym, ap, ◌∙◌, subst, arith}
 use Rattle.std.proofs.lemmas.Bool.Decides.{nat_tests}
 use Rattle.std.proofs.lemmas.Fmt.{decimal_by_steps, decimal_is_IsNumeral, decimal_nonempty, length-decimal-le}
 use Rattle.std.proofs.lemmas.List.Folds.{list_all-append}
@@ -41,7 +41,8 @@ passing_back test o x is passes = rw (is, passes) refl
 digits_of_decimal : (n : ℕ) → n < 2 ^ 64 → list_all is_ascii_digit (decimal n) ≡ true
 digits_of_decimal n small = decimal_by_steps (λ _ ds. list_all is_ascii_digit ds ≡ true)
     (λ m less. both (is_ascii_digit (48 + m)) true (grind (arith, nat_tests)) refl)
-    (λ m ds _ front. list_all-append is_ascii_digit ds ((48 + m % 10) ∷ []) ∙ both (list_all is_ascii_digit ds)
+    (λ m ds _ front. list_all-append is_ascii_digit ds ((48 + m % 10) ∷ [])
+    ∙ both (list_all is_ascii_digit ds)
     (is_ascii_digit (48 + m % 10) && true) front (both (is_ascii_digit (48 + m % 10)) true
     (grind (arith, nat_tests)) refl)) n small
 
@@ -49,14 +50,16 @@ decimal_digits : (n : ℕ) → n < 2 ^ 64 → digits_between 1 20 (decimal n) �
 decimal_digits n small =
     let some = decimal_nonempty n small in
     let long = length-decimal-le 20 n (omega arith) (omega (arith, small)) small in
-    test_all (nat_le 1 (length (decimal n))) (nat_le (length (decimal n)) 20) (list_all is_ascii_digit (decimal n))
+    test_all (nat_le 1 (length (decimal n))) (nat_le (length (decimal n)) 20) (list_all is_ascii_digit
+    (decimal n))
     (digits_value 10 (decimal n)) n (grind (arith, nat_tests, some)) (grind (arith, nat_tests, long))
     (digits_of_decimal n small) (decimal_is_IsNumeral n small).1
 
 pub number_is : (field : Text) (n : ℕ) → number_read field ≡ Some n → (field ≡ decimal n) × (n < 2 ^ 64)
 unfolding number_read
 number_is field n is =
-    let h = passing_is (λ k. nat_lt k (2 ^ 64) && bytes_eq field (decimal k)) (digits_between 1 20 field) n is in
+    let h = passing_is (λ k. nat_lt k (2 ^ 64) && bytes_eq field (decimal k))
+    (digits_between 1 20 field) n is in
     let parts = front_true (nat_lt n (2 ^ 64)) (bytes_eq field (decimal n)) h.1 in
     ((bytes_eq-Decides field (decimal n)).0 parts.1, grind (arith, nat_tests, parts.0))
 
@@ -64,7 +67,8 @@ pub number_back : (n : ℕ) → n < 2 ^ 64 → number_read (decimal n) ≡ Some 
 unfolding number_read
 number_back n small =
     let less : nat_lt n (2 ^ 64) ≡ true = grind (arith, nat_tests, small) in
-    passing_back (λ k. nat_lt k (2 ^ 64) && bytes_eq (decimal n) (decimal k)) (digits_between 1 20 (decimal n)) n
+    passing_back (λ k. nat_lt k (2 ^ 64) && bytes_eq (decimal n) (decimal k)) (digits_between 1 20
+    (decimal n)) n
     (decimal_digits n small) (both (nat_lt n (2 ^ 64)) (bytes_eq (decimal n) (decimal n)) less
     ((bytes_eq-Decides (decimal n) (decimal n)).1 refl))
 
@@ -74,14 +78,16 @@ found_passes : {A : Type 0} (p : A → Bool) (xs : List A) (x : A) → find p xs
 found_passes p [] x e = absurd cc
 found_passes p (y ∷ ys) x e = at (p y) refl (found_passes p ys x) e
   where
-    at : (b : Bool) → p y ≡ b → (find p ys ≡ Some x → p x ≡ true) → (if b then Some y else find p ys) ≡ Some x →
+    at : (b : Bool) → p y ≡ b → (find p ys ≡ Some x → p x ≡ true) →
+        (if b then Some y else find p ys) ≡ Some x →
         p x ≡ true
     at true is rest e = let same : y ≡ x = cc in subst (λ z. p z ≡ true) same is
     at false is rest e = rest e
 
 pub kind_is : (field : Text) (k : ItemKind) → kind_read field ≡ Some k → field ≡ kind_word k
 unfolding kind_read
-kind_is field k is = (bytes_eq-Decides field (kind_word k)).0 (found_passes (λ j. bytes_eq field (kind_word j)) kinds k is)
+kind_is field k is = (bytes_eq-Decides field (kind_word k)).0 (found_passes (λ j. bytes_eq field
+    (kind_word j)) kinds k is)
 
 pub kind_back : (k : ItemKind) → kind_read (kind_word k) ≡ Some k
 unfolding kind_read
@@ -104,7 +110,8 @@ mark_by field one two false true m e f is w p q =
 mark_by field one two false false m e f is w p q = absurd cc
 
 pub mark_is : (k : ItemKind) (field : Text) (m : Bool) → mark_read k field ≡ Some m → field ≡ mark_word k m
-mark_is k field m is = mark_by field (mark_word k true) (mark_word k false) (bytes_eq field (mark_word k true))
+mark_is k field m is = mark_by field (mark_word k true) (mark_word k false) (bytes_eq field
+    (mark_word k true))
     (bytes_eq field (mark_word k false)) m refl refl is (mark_word k) refl refl
 
 pub mark_back : (k : ItemKind) (m : Bool) → mark_read k (mark_word k m) ≡ Some m
@@ -136,7 +143,8 @@ some_is field (Some s) t is e =
 some_is field None t is e = absurd cc
 
 tick_by : (b : Bool) (field : Text) (t : Option ℤ) →
-    (if b then option_map Some (second_read field) else (if bytes_eq field [] then Some None else None)) ≡ Some t →
+    (if b then option_map Some (second_read field) else (if bytes_eq field [] then Some None else None)) ≡
+    Some t →
     (field ≡ tick_text t) × (b ≡ true → (second : ℤ) × (t ≡ Some second) × IsTickInRange second)
     × (b ≡ false → t ≡ None)
 tick_by true field t e =
@@ -153,4 +161,5 @@ tick_is k field t e = tick_by (has_ticks k) field t e
 
 pub tick_back : (k : ItemKind) (second : ℤ) → has_ticks k ≡ true → IsTickInRange second →
     tick_read k (second_text second) ≡ Some (Some second)
-tick_back k second has range = rw has (ap (option_map Some) (second_found (second_text second) second range refl))
+tick_back k second has range = rw has (ap (option_map Some) (second_found
+    (second_text second) second range refl))

@@ -1,7 +1,7 @@
 -- The item that was read has the fields that were read.
-use Rattle.std.proofs.Common.{◌≡◌, ℕ, ◌^◌, ◌<◌, ◌≤◌, Bool, true, false, ◌&&◌, ◌==◌, nat_le, if◌then◌else◌, List, [], ◌∷◌, ℤ, pos, Option, Some, None, unwrap_or, decimal, ok_or, Result, Ok, Err, refl, sym, ap, ◌∙◌, subst, arith, ◌⊎◌, inl, inr}
+use Rattle.std.proofs.Common.{◌≡◌, ℕ, ◌^◌, ◌<◌, ◌≤◌, Bool, true, false, ◌&&◌, ◌==◌, nat_le, if◌then◌else◌, List, [], ◌∷◌, ℤ, pos, Option, Some, None, unwrap_or, decimal, ok_or, Ok, refl, sym, ap, ◌∙◌, subst, arith, ◌⊎◌, inl, inr}
 use Rattle.std.proofs.lemmas.Bool.Decides.{nat_tests}
-use Rattle.pq_items.specs.ItemRange.{IsItemInRange, IsTickInRange}
+use Rattle.pq_items.specs.ItemRange.{IsTickInRange}
 use Rattle.pq_items.specs.declared.item.Item.{Item}
 use Rattle.pq_report.specs.ReportReading.{fields_read, has_ticks, is_channel_of, is_count_of, item_of, item_read, item_with, mark_read, number_read, passing, span_read, tick_read}
 use Rattle.pq_report.specs.ReportText.{IsReportable, kind_word, mark_word, place_text, row_fields, tick_text}
@@ -12,7 +12,6 @@ use Rattle.pq_report.proofs.FieldBackLemmas.{front_true, mark_is, number_is, pas
 use Rattle.pq_report.proofs.QuoteLemmas.{ten_fields}
 use Rattle.pq_report.proofs.RowBackLemmas.{IsSpanRead, span_is}
 use Rattle.pq_time.specs.declared.clock.Clock.{Clock}
-use Rattle.pq_words.specs.FirstFault.{◌>>=◌}
 use Rattle.pq_words.specs.Text.{Text}
 use Rattle.pq_words.specs.declared.limits.TheConstants.{MOST_SAMPLES}
 use Rattle.pq_words.proofs.ReadingLemmas.{bind_ok, some_ok}
@@ -53,7 +52,8 @@ count_in n true is test = inl (equal_is n 10 is)
 count_in n false is test = inr (equal_is n 12 test)
 
 -- its item has these fields, and can be reported
-item_fields : (clock : Clock) (k : ItemKind) (channel start end : ℕ) (tick : Option ℤ) (value count : ℕ) (mark : Bool)
+item_fields : (clock : Clock) (k : ItemKind) (channel start end : ℕ) (tick : Option ℤ) (value count : ℕ)
+    (mark : Bool)
     → IsSayable k channel start end tick value count →
     (value_fields clock k channel start end tick value count mark
     ≡ row_fields clock (item_of k channel start end (unwrap_or tick (pos 0)) value count mark))
@@ -61,7 +61,8 @@ item_fields : (clock : Clock) (k : ItemKind) (channel start end : ℕ) (tick : O
 item_fields clock kind.Frequency channel start end tick value count mark h =
     let (second, is, range) = h.ticks refl in
     let none : channel ≡ 0 = equal_is channel 0 h.of_channel in (
-      ten_fields refl (ap decimal none) refl refl refl refl (sym (ap tick_text (some_whole tick second is))) refl refl refl,
+      ten_fields refl (ap decimal none) refl refl refl refl (sym (ap tick_text
+          (some_whole tick second is))) refl refl refl,
       record {
         range = record {
           start = h.first;
@@ -108,7 +109,8 @@ item_fields clock kind.Short channel start end tick value count mark h =
     )
 item_fields clock kind.Ten channel start end tick value count mark h =
     let (second, is, range) = h.ticks refl in (
-      ten_fields refl refl refl refl refl refl (sym (ap tick_text (some_whole tick second is))) refl refl refl,
+      ten_fields refl refl refl refl refl refl (sym (ap tick_text
+          (some_whole tick second is))) refl refl refl,
       record {
         range = record {
           start = h.first;
@@ -125,7 +127,8 @@ item_fields clock kind.Ten channel start end tick value count mark h =
 item_fields clock kind.TwoHour channel start end tick value count mark h =
     let (second, is, range) = h.ticks refl in
     let all : count ≡ 12 = equal_is count 12 h.of_count in (
-      ten_fields refl refl refl refl refl refl (sym (ap tick_text (some_whole tick second is))) refl (ap decimal all) refl,
+      ten_fields refl refl refl refl refl refl (sym (ap tick_text (some_whole tick second is))) refl
+          (ap decimal all) refl,
       record {
         range = record {
           start = h.first;
@@ -189,7 +192,8 @@ item_fields clock kind.Interruption channel start end tick value count mark h =
     )
 
 -- an item that was read, from its span and the last four fields
-item_is : (clock : Clock) (word channel start end from to tick value count mark : Text) (span : RowSpan) (i : Item) →
+item_is : (clock : Clock) (word channel start end from to tick value count mark : Text) (span : RowSpan)
+    (i : Item) →
     IsSpanRead clock word channel start end from to span → item_read span tick value count mark ≡ Ok i →
     ((word ∷ channel ∷ start ∷ end ∷ from ∷ to ∷ tick ∷ value ∷ count ∷ mark ∷ []) ≡ row_fields clock i)
     × IsReportable i
@@ -197,11 +201,13 @@ unfolding item_read
 item_is clock word channel start end from to tick value count mark span i s is =
     let (t, tick_ok, after_tick) = bind_ok (ok_or (tick_read span.kind tick) 7) _ i is in
     let (v, value_ok, after_value) = bind_ok (ok_or (number_read value) 8) _ i after_tick in
-    let (c, count_ok, after_count) = bind_ok (ok_or (passing (is_count_of span.kind) (number_read count)) 9) _ i after_value in
+    let (c, count_ok, after_count) = bind_ok (ok_or (passing (is_count_of span.kind)
+    (number_read count)) 9) _ i after_value in
     let (m, mark_ok, done) = bind_ok (ok_or (mark_read span.kind mark) 10) _ i after_count in
     let t_is = tick_is span.kind tick t (some_ok (tick_read span.kind tick) 7 t tick_ok) in
     let v_is = number_is value v (some_ok (number_read value) 8 v value_ok) in
-    let c_passes = passing_is (is_count_of span.kind) (number_read count) c (some_ok (passing (is_count_of span.kind) (number_read count)) 9 c count_ok) in
+    let c_passes = passing_is (is_count_of span.kind) (number_read count) c (some_ok (passing
+    (is_count_of span.kind) (number_read count)) 9 c count_ok) in
     let c_is = number_is count c c_passes.0 in
     let m_is = mark_is span.kind mark m (some_ok (mark_read span.kind mark) 10 m mark_ok) in
     let made : item_with span t v c m ≡ i = cc in

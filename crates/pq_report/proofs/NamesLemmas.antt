@@ -1,5 +1,5 @@
 -- The first name that differs, name by name.
-use Rattle.std.proofs.Common.{◌≡◌, ℕ, ◌+◌, ◌<◌, Bool, true, false, not, if◌then◌else◌, List, [], map, drop, get_or, length, bytes_eq, refl, sym, ap, subst, ◌∙◌, Result, Err, Bor, arith}
+use Rattle.std.proofs.Common.{◌≡◌, ℕ, ◌+◌, ◌<◌, Bool, true, false, not, if◌then◌else◌, List, [], map, drop, get_or, length, bytes_eq, refl, sym, ap, ◌∙◌, Err, Bor, arith}
 use Rattle.std.proofs.lemmas.List.{drop_more, get_or-map, length-map}
 use Rattle.pq_report.specs.ReportReading.{names_read}
 use Rattle.pq_words.specs.Text.{Text}
@@ -25,7 +25,8 @@ not_is false r v is same = sym (ap not (sym is ∙ same))
 lent_step : (names fields : List (Bor Text)) (i : ℕ) (d e : Bor Text) (v : Bool) → i < length names →
     length names ≡ length fields → bytes_eq (get_or fields i d).now (get_or names i e).now ≡ v →
     names_read (i + 1) (drop i (all_now names)) (drop i (all_now fields))
-    ≡ (if v then names_read (i + 1 + 1) (drop (i + 1) (all_now names)) (drop (i + 1) (all_now fields)) else Err (i + 1))
+    ≡ (if v then names_read (i + 1 + 1) (drop (i + 1) (all_now names)) (drop (i + 1)
+    (all_now fields)) else Err (i + 1))
 lent_step names fields i d e v inside both is =
     let more : i < length fields = omega (arith, inside, both) in
     let a : i < length (all_now names) = omega (arith, inside, length-map names (λ (f : Bor Text). f.now)) in
@@ -35,7 +36,8 @@ lent_step names fields i d e v inside both is =
     let name : get_or (all_now names) i [] ≡ (get_or names i e).now =
     get_or-map (λ (f : Bor Text). f.now) names i e [] inside in
     let test : bytes_eq (get_or (all_now fields) i []) (get_or (all_now names) i []) ≡ v =
-    ap (λ x. bytes_eq x (get_or (all_now names) i [])) field ∙ ap (bytes_eq (get_or fields i d).now) name ∙ is in
+    ap (λ x. bytes_eq x (get_or (all_now names) i [])) field ∙ ap (bytes_eq (get_or fields i d).now) name
+    ∙ is in
     names_step (i + 1) i (all_now names) (all_now fields) a b
     ∙ choice (bytes_eq (get_or (all_now fields) i []) (get_or (all_now names) i [])) v
     (names_read (i + 1 + 1) (drop (i + 1) (all_now names)) (drop (i + 1) (all_now fields))) (Err (i + 1)) test

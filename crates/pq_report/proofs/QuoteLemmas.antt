@@ -98,7 +98,8 @@ plain_item clock i h =
 pub needs_no_quotes : NeedsNoQuotes
 unfolding csv_row item_row
 needs_no_quotes clock i h =
-    plain_row (kind_word (kind_of i)) (decimal (channel_of i)) (drop 2 (row_fields clock i)) (plain_item clock i h)
+    plain_row (kind_word (kind_of i)) (decimal (channel_of i)) (drop 2 (row_fields clock i))
+    (plain_item clock i h)
 
 -- a text that was written of the fields of an item is its row
 pub written_row : {E : Type 0} (clock : Clock) (i : Item) (r : Result Text E) (fields : List Text) →

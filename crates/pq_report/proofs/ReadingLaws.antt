@@ -1,5 +1,5 @@
 -- The rows of a report, one after another.
-use Rattle.std.proofs.Common.{◌≡◌, ℕ, ◌+◌, ◌≤◌, ◌==◌, ◌⊎◌, inl, inr, subst, IsErrAnd, Bool, true, false, List, [], ◌∷◌, ◌++◌, length, bytes_eq, Result, Ok, Err, refl, sym, ap, ◌∙◌, append_assoc, arith}
+use Rattle.std.proofs.Common.{◌≡◌, ℕ, ◌+◌, ◌≤◌, ◌==◌, inr, subst, IsErrAnd, Bool, true, false, List, [], ◌∷◌, ◌++◌, length, bytes_eq, Result, Ok, Err, refl, sym, ap, ◌∙◌, append_assoc, arith}
 use Rattle.std.proofs.lemmas.Bool.Decides.{nat_tests}
 use Rattle.std.proofs.lemmas.List.{append-nil}
 use Rattle.std.specs.declared.alloc.Global.{Global}
@@ -30,12 +30,14 @@ one_more front i (Err e) = refl
 -- a row, and others behind it
 pub rows_cons : (clock : Clock) (n : ℕ) (first : Text) (parts : List Text) → 1 ≤ length parts →
     rows_read clock n (first ∷ parts)
-    ≡ (in_row n (fields_read clock (parted_at 44 first)) >>= λ i. rows_read clock (n + 1) parts >>= λ items. Ok (i ∷ items))
+    ≡ (in_row n (fields_read clock (parted_at 44 first)) >>= λ i. rows_read clock
+    (n + 1) parts >>= λ items. Ok (i ∷ items))
 unfolding rows_read
 rows_cons clock n first [] some = absurd (omega (arith, some))
 rows_cons clock n first (second ∷ others) some = refl
 
-bind_fault : {A B : Type 0} (r : Result A ReportFault) (f : A → Result B ReportFault) (e : ReportFault) → r ≡ Err e →
+bind_fault : {A B : Type 0} (r : Result A ReportFault) (f : A → Result B ReportFault) (e : ReportFault) →
+    r ≡ Err e →
     (r >>= f) ≡ Err e
 bind_fault r f e is = rw is refl
 
@@ -48,7 +50,8 @@ pub rows_fault : (clock : Clock) (n : ℕ) (line after rest : Text) (front : Lis
     parted_at 10 rest ≡ line ∷ parted_at 10 after → in_row n (fields_read clock (parted_at 44 line)) ≡ Err e →
     after_items front (rows_read clock n (parted_at 10 rest)) ≡ Err e
 rows_fault clock n line after rest front e parts is =
-    ap (after_items front) (ap (rows_read clock n) parts ∙ rows_cons clock n line (parted_at 10 after) (some_part 10 after)
+    ap (after_items front) (ap (rows_read clock n) parts
+    ∙ rows_cons clock n line (parted_at 10 after) (some_part 10 after)
     ∙ bind_fault (in_row n (fields_read clock (parted_at 44 line))) _ e is)
 
 -- the row of an item
@@ -57,7 +60,8 @@ pub rows_item : (clock : Clock) (n : ℕ) (line after rest : Text) (front : List
     after_items front (rows_read clock n (parted_at 10 rest))
     ≡ after_items (front ++ i ∷ []) (rows_read clock (n + 1) (parted_at 10 after))
 rows_item clock n line after rest front i parts is =
-    ap (after_items front) (ap (rows_read clock n) parts ∙ rows_cons clock n line (parted_at 10 after) (some_part 10 after)
+    ap (after_items front) (ap (rows_read clock n) parts
+    ∙ rows_cons clock n line (parted_at 10 after) (some_part 10 after)
     ∙ bind_value (in_row n (fields_read clock (parted_at 44 line))) _ i is)
     ∙ one_more front i (rows_read clock (n + 1) (parted_at 10 after))
 
@@ -67,7 +71,8 @@ pub rows_end : (clock : Clock) (n : ℕ) (rest : Text) → parted_at 10 rest ≡
 unfolding rows_read
 rows_end clock n rest parts = ap (rows_read clock n) parts
 
-after_end : (clock : Clock) (n : ℕ) (rest : Text) (front : List Item) (v : Bool) → parted_at 10 rest ≡ rest ∷ [] →
+after_end : (clock : Clock) (n : ℕ) (rest : Text) (front : List Item) (v : Bool) →
+    parted_at 10 rest ≡ rest ∷ [] →
     bytes_eq rest [] ≡ v → after_items front (rows_read clock n (parted_at 10 rest))
     ≡ after_items front (provided v (fault.Field n 0) [])
 after_end clock n rest front v parts is = ap (after_items front) (rows_end clock n rest parts
@@ -93,7 +98,8 @@ rows_unended clock n rest front empty parts test is =
     after_end clock n rest front false parts (empty_is rest empty test ∙ is)
 
 -- a fault that was passed on
-pub fault_given : (r : Result (Vec Item Global) ReportFault) (e : ReportFault) (read : Result (List Item) ReportFault)
+pub fault_given : (r : Result (Vec Item Global) ReportFault) (e : ReportFault) (read : Result
+    (List Item) ReportFault)
     → IsErrAnd r (λ x. x ≡ e) → read ≡ Err e → GivesItems r read
 fault_given (Ok items) e read is found = absurd is
 fault_given (Err x) e read is found = inr (found ∙ ap Err (sym is))
@@ -101,7 +107,8 @@ fault_given (Err x) e read is found = inr (found ∙ ap Err (sym is))
 -- ---- the header, and the rows
 
 -- the header row, and others behind it
-pub report_cons : (clock : Clock) (first : Text) (parts : List Text) → 1 ≤ length parts → parts_read clock (first ∷ parts)
+pub report_cons : (clock : Clock) (first : Text) (parts : List Text) → 1 ≤ length parts →
+    parts_read clock (first ∷ parts)
     ≡ (in_row 1 (header_read (parted_at 44 first)) >>= λ named. rows_read clock 2 parts)
 unfolding parts_read
 report_cons clock first [] some = absurd (omega (arith, some))
@@ -112,14 +119,16 @@ pub report_fault : (clock : Clock) (text line rows : Text) (e : ReportFault) →
     report_read clock text ≡ Err e
 report_fault clock text line rows e parts is = ap (parts_read clock) parts
     ∙ report_cons clock line (parted_at 10 rows) (some_part 10 rows)
-    ∙ bind_fault (in_row 1 (header_read (parted_at 44 line))) (λ named. rows_read clock 2 (parted_at 10 rows)) e is
+    ∙ bind_fault (in_row 1 (header_read (parted_at 44 line))) (λ named. rows_read clock 2
+    (parted_at 10 rows)) e is
 
 pub report_rows : (clock : Clock) (text line rows : Text) (named : Unit {0}) →
     parted_at 10 text ≡ line ∷ parted_at 10 rows → in_row 1 (header_read (parted_at 44 line)) ≡ Ok named →
     report_read clock text ≡ rows_read clock 2 (parted_at 10 rows)
 report_rows clock text line rows named parts is = ap (parts_read clock) parts
     ∙ report_cons clock line (parted_at 10 rows) (some_part 10 rows)
-    ∙ bind_value (in_row 1 (header_read (parted_at 44 line))) (λ named. rows_read clock 2 (parted_at 10 rows)) named is
+    ∙ bind_value (in_row 1 (header_read (parted_at 44 line))) (λ named. rows_read clock 2
+    (parted_at 10 rows)) named is
 
 pub given_rows : (r : Result (Vec Item Global) ReportFault) (read whole : Result (List Item) ReportFault) →
     whole ≡ read → GivesItems r read → GivesItems r whole

@@ -1,5 +1,5 @@
 -- What is read of a report is its text, and its text is read.
-use Rattle.std.proofs.Common.{◌≡◌, ◌↔◌, ℕ, zero, suc, ◌+◌, ◌<◌, ◌≤◌, Bool, true, false, ◌&&◌, ◌==◌, nat_le, if◌then◌else◌, List, [], ◌∷◌, ◌++◌, All, flat_map, length, get_or, bytes_eq, Result, Ok, Err, refl, sym, ap, ◌∙◌, subst, arith, append_assoc, codes, drop, IfOk}
+use Rattle.std.proofs.Common.{◌≡◌, ℕ, ◌+◌, ◌≤◌, Bool, true, false, ◌==◌, nat_le, if◌then◌else◌, List, [], ◌∷◌, ◌++◌, All, flat_map, length, get_or, bytes_eq, Result, Ok, Err, refl, sym, ap, ◌∙◌, subst, arith, append_assoc, codes, drop, IfOk}
 use Rattle.std.proofs.lemmas.Bool.Decides.{nat_tests}
 use Rattle.std.proofs.lemmas.List.Elements.{All-from_recursion}
 use Rattle.std.proofs.lemmas.List.Folds.{list_all-append}
@@ -24,7 +24,7 @@ use Rattle.pq_report.proofs.ReadingLaws.{bind_value, report_cons, rows_cons}
 use Rattle.pq_report.proofs.RowBackLemmas.{fields_back}
 use Rattle.pq_time.specs.declared.clock.Clock.{Clock}
 use Rattle.pq_time.proofs.FieldLemmas.{some_part}
-use Rattle.pq_words.specs.FirstFault.{◌>>=◌, provided}
+use Rattle.pq_words.specs.FirstFault.{provided}
 use Rattle.pq_words.specs.Text.{Text, joined_by, parted_at}
 use Rattle.pq_words.proofs.ReadingLemmas.{bind_ok, provided_ok}
 
@@ -34,7 +34,8 @@ not_comma : (b : ℕ) → is_plain b ≡ true → (b == 44) ≡ false
 not_comma b plain = grind (arith, nat_tests, plain)
 
 no_comma : (text : Text) → IsPlain text → All (λ b. (b == 44) ≡ false) text
-no_comma text plain = λ k d inside. not_comma (get_or text k d) (AllPass-from_list_all is_plain text plain k d inside)
+no_comma text plain = λ k d inside. not_comma (get_or text k d)
+    (AllPass-from_list_all is_plain text plain k d inside)
 
 parted_joined : (f : Text) (fields : List Text) → AllByRecursion IsPlain (f ∷ fields) →
     parted_at 44 (joined_by 44 (f ∷ fields)) ≡ f ∷ fields
@@ -122,10 +123,12 @@ in_row_ok n (Ok y) x is = ap Ok (let same : y ≡ x = cc in same)
 in_row_ok n (Err e) x is = absurd cc
 
 -- a row that was read is that of its item
-row_is : (clock : Clock) (n : ℕ) (line : Text) (i : Item) → in_row n (fields_read clock (parted_at 44 line)) ≡ Ok i →
+row_is : (clock : Clock) (n : ℕ) (line : Text) (i : Item) → in_row n (fields_read clock
+    (parted_at 44 line)) ≡ Ok i →
     (line ≡ joined_by 44 (row_fields clock i)) × IsReportable i
 row_is clock n line i is =
-    let h = fields_are clock (parted_at 44 line) i (in_row_ok n (fields_read clock (parted_at 44 line)) i is) in
+    let h = fields_are clock (parted_at 44 line) i (in_row_ok n (fields_read clock
+    (parted_at 44 line)) i is) in
     (sym (join_with_byte-slice_split 44 line) ∙ ap (joined_by 44) h.0, h.1)
 
 rows_are : (clock : Clock) (n : ℕ) (parts : List Text) (items : List Item) → 1 ≤ length parts →
@@ -160,8 +163,10 @@ names_are n (name ∷ names) [] long is = absurd (omega (arith, long))
 names_are n (name ∷ names) (field ∷ fields) long is =
     at (bytes_eq field name) refl (names_are (n + 1) names fields (omega (arith, long))) is
   where
-    at : (b : Bool) → bytes_eq field name ≡ b → (names_read (n + 1) names fields ≡ Ok (tt {0}) → fields ≡ names) →
-        (if b then names_read (n + 1) names fields else Err n) ≡ Ok (tt {0}) → (field ∷ fields) ≡ (name ∷ names)
+    at : (b : Bool) → bytes_eq field name ≡ b → (names_read (n + 1) names fields ≡ Ok (tt {0}) →
+        fields ≡ names) →
+        (if b then names_read (n + 1) names fields else Err n) ≡ Ok (tt {0}) →
+        (field ∷ fields) ≡ (name ∷ names)
     at true test rest e = λ k. (bytes_eq-Decides field name).0 test k ∷ rest e k
     at false test rest e = absurd cc
 

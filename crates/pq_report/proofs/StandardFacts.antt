@@ -54,8 +54,10 @@ moment_at_fault = refl
 
 -- no header, one of another order, and a header without a line end
 pub headers_at_fault : (report_read clock [] ≡ Err (fault.Field 1 0))
-    × (report_read clock (codes "kind,channel,start,end,from,to,value,tick,count,mark\n") ≡ Err (fault.Field 1 7))
-    × (report_read clock (codes "kind,channel,start,end,from,to,tick,value,count,mark") ≡ Err (fault.Field 1 0))
+    × (report_read clock (codes "kind,channel,start,end,from,to,value,tick,count,mark\n") ≡ Err
+    (fault.Field 1 7))
+    × (report_read clock (codes "kind,channel,start,end,from,to,tick,value,count,mark") ≡ Err
+    (fault.Field 1 0))
 unfolding parts_read rows_read header_read
 headers_at_fault = (refl, refl, refl)
 

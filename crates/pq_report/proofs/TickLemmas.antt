@@ -1,5 +1,5 @@
 -- The second of a tick is told by its moment.
-use Rattle.std.proofs.Common.{◌≡◌, ◌≢◌, ℕ, ◌+◌, ◌-◌, ◌*◌, ◌^◌, ◌<◌, ◌≤◌, Bool, true, false, IsTrue, List, [], ◌∷◌, ◌++◌, length, take, drop, ℤ, pos, ◌+ℤ◌, ◌-ℤ◌, ◌*ℤ◌, Option, Some, None, option_map, bytes_eq, refl, sym, ap, subst, ◌∙◌, arith}
+use Rattle.std.proofs.Common.{◌≡◌, ◌≢◌, ℕ, ◌+◌, ◌-◌, ◌^◌, ◌<◌, ◌≤◌, [], ◌∷◌, ◌++◌, length, take, drop, ℤ, pos, ◌+ℤ◌, ◌*ℤ◌, Option, Some, None, option_map, bytes_eq, refl, sym, ap, subst, ◌∙◌, arith}
 use Rattle.std.proofs.lemmas.Bool.Decides.{nat_tests}
 use Rattle.std.proofs.lemmas.Slice.Eq.{bytes_eq-Decides}
 use borrow.Author.Differences.{up, down}
@@ -8,15 +8,14 @@ use Rattle.jiff_core.proofs.SignedLemmas.{signed_arith}
 use Rattle.pq_items.specs.ItemRange.{IsTickInRange}
 use Rattle.pq_report.specs.ReportReading.{second_at, second_read}
 use Rattle.pq_report.specs.ReportText.{second_text}
-use Rattle.pq_report.specs.ShownSecond.{IsShortDate, IsTime, seconds_in_day}
+use Rattle.pq_report.specs.ShownSecond.{IsShortDate, seconds_in_day}
 use Rattle.pq_report.proofs.DigitLemmas.{digits_padded}
 use Rattle.pq_time.specs.Moment.{day_number, moment_at}
 use Rattle.pq_time.specs.Printed.{IsShown, date_shown, hms_text, printed_moment, time_shown, time_text, ymd_text}
 use Rattle.pq_time.specs.Tick.{moment_of}
 use Rattle.pq_time.specs.Written.{CivilDate, TimeOfDay}
 use Rattle.pq_time.proofs.PrintedLemmas.{shown_is}
-use Rattle.pq_words.specs.First.{FirstAt, IsFirst, Nowhere, first_between}
-use Rattle.pq_words.specs.Magnitude.{IsWithin}
+use Rattle.pq_words.specs.First.{FirstAt, IsFirst, first_between}
 use Rattle.pq_words.specs.Text.{Text, digits_between, padded}
 use Rattle.pq_words.proofs.FirstLaws.{first_between_is, first_between_only}
 
@@ -56,7 +55,8 @@ pub same_shown : (d e : CivilDate) (t u : TimeOfDay) (x y : ℤ) → IsShown x d
 same_shown d e t u x y one other same =
     let first = short_date d one.date in
     let second = short_date e other.date in
-    let year = same_digits 4 0 d.year e.year (text_at d t) (text_at e u) (omega arith) first.year second.year same
+    let year = same_digits 4 0 d.year e.year (text_at d t) (text_at e u)
+    (omega arith) first.year second.year same
     refl refl in
     let month = same_digits 2 5 d.month e.month (text_at d t) (text_at e u) (omega arith)
     (omega (arith, one.date.1)) (omega (arith, other.date.1)) same refl refl in
@@ -82,7 +82,8 @@ same_second s u range other same =
     let two = shown u other in
     let both = same_shown (date_shown (moment_of s)) (date_shown (moment_of u)) (time_shown (moment_of s))
     (time_shown (moment_of u)) (moment_of s) (moment_of u) one two (sym (text_is s) ∙ same ∙ text_is u) in
-    let moments : moment_of s ≡ moment_of u = sym one.both ∙ ap (λ d. moment_at d (time_shown (moment_of s))) both.0
+    let moments : moment_of s ≡ moment_of u = sym one.both
+    ∙ ap (λ d. moment_at d (time_shown (moment_of s))) both.0
     ∙ ap (λ t. moment_at (date_shown (moment_of u)) t) both.1 ∙ two.both in
     omega (arith, signed_arith, moments)
 
@@ -100,7 +101,8 @@ second_in_range : (k : ℕ) → k < 18_000_000_001 → IsTickInRange (second_at 
 second_in_range k small = omega (arith, signed_arith, small)
 
 -- the second whose moment the field is
-pub second_found : (field : Text) (s : ℤ) → IsTickInRange s → field ≡ second_text s → second_read field ≡ Some s
+pub second_found : (field : Text) (s : ℤ) → IsTickInRange s → field ≡ second_text s →
+    second_read field ≡ Some s
 unfolding second_read
 second_found field s range is =
     let place = place_of_second s range in
@@ -112,14 +114,17 @@ second_found field s range is =
       passes = (bytes_eq-Decides field (second_text (second_at k))).1 (is ∙ ap second_text (sym place.1));
       none_before =
           λ j low less yes.
-          let text : field ≡ second_text (second_at j) = (bytes_eq-Decides field (second_text (second_at j))).0 yes in
+          let text : field ≡ second_text (second_at j) = (bytes_eq-Decides field (second_text
+          (second_at j))).0 yes in
           let same : second_at j ≡ s = same_second (second_at j) s
           (second_in_range j (omega (arith, less, place.2))) range (sym text ∙ is) in
           omega (arith, signed_arith, same, place.1, less);
     } in
-    sym (ap (option_map second_at) (first_between_only test 0 18_000_000_001 (Some k) first)) ∙ ap Some place.1
+    sym (ap (option_map second_at) (first_between_only test 0 18_000_000_001 (Some k) first))
+    ∙ ap Some place.1
 
-read_from : (field : Text) (r : Option ℕ) (s : ℤ) → IsFirst (λ k. bytes_eq field (second_text (second_at k))) 0
+read_from : (field : Text) (r : Option ℕ) (s : ℤ) → IsFirst (λ k. bytes_eq field (second_text
+    (second_at k))) 0
     18_000_000_001 r → option_map second_at r ≡ Some s → IsTickInRange s × (field ≡ second_text s)
 read_from field None s first is = absurd cc
 read_from field (Some k) s first is =
@@ -142,11 +147,13 @@ none_by field None is none = refl
 none_by field (Some s) is none = let read = second_is field s is in absurd (none s read.0 read.1)
 
 -- and where no second in range has the field, none is read
-pub second_none : (field : Text) → ((s : ℤ) → IsTickInRange s → field ≢ second_text s) → second_read field ≡ None
+pub second_none : (field : Text) → ((s : ℤ) → IsTickInRange s → field ≢ second_text s) →
+    second_read field ≡ None
 second_none field none = none_by field (second_read field) refl none
 
 -- none is read where none was shown, or one whose moment is another
-pub none_shown : (field : Text) (r : Option ℤ) → ((s : ℤ) → IsTickInRange s → field ≡ second_text s → r ≡ Some s)
+pub none_shown : (field : Text) (r : Option ℤ) → ((s : ℤ) → IsTickInRange s → field ≡ second_text s →
+    r ≡ Some s)
     → r ≡ None → second_read field ≡ None
 none_shown field r only none = second_none field (λ s range is.
     let both : None ≡ Some s = sym none ∙ only s range is in absurd cc)
@@ -177,7 +184,8 @@ second_by_parts s d t h = omega (arith, signed_arith, h.both, h.nanosecond)
 
 -- ---- the date that digits write
 
-digits_are : (k n v : ℕ) (text : Text) → 1 ≤ k → n < 10 ^ k → text ≡ padded k n → Some v ≡ digits_between 1 k text
+digits_are : (k n v : ℕ) (text : Text) → 1 ≤ k → n < 10 ^ k → text ≡ padded k n →
+    Some v ≡ digits_between 1 k text
     → v ≡ n
 digits_are k n v text some small is read =
     let same : Some v ≡ Some n = read ∙ ap (digits_between 1 k) is ∙ digits_padded k n some small in
@@ -198,7 +206,8 @@ day_is d field k h is read = digits_are 2 d.day k (take 2 (drop 8 field)) (omega
     (omega (arith, h.date.2, days_few (pos d.year) d.month)) (ap (λ text. take 2 (drop 8 text)) is) read
 
 -- a date of the calendar, by its signed numbers
-pub signed_date : (y m k : ℤ) (d : CivilDate) → IsShortDate d → y ≡ pos d.year → m ≡ pos d.month → k ≡ pos d.day
+pub signed_date : (y m k : ℤ) (d : CivilDate) → IsShortDate d → y ≡ pos d.year → m ≡ pos d.month →
+    k ≡ pos d.day
     → IsDate y m k
 signed_date y m k d h year month day = rw (year, month, day) (
   h.date.0,

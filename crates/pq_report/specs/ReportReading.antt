@@ -1,5 +1,6 @@
--- The subject: the items that a text reports, or its first fault, read from left to right. All of it is profile.
-use Rattle.std.specs.Prelude.{◌≡◌, ◌↔◌, ℕ, ◌+◌, ◌*◌, ◌^◌, ◌-◌, ◌<◌, ◌≤◌, Bool, true, false, not, ◌&&◌, ◌==◌, nat_le, nat_lt, if◌then◌else◌, [], ◌∷◌, ◌++◌, List, ℤ, pos, ◌-ℤ◌, Option, Some, None, option_map, option_and_then, unwrap_or, ok_or, find, bytes_eq, Result, Ok, Err, decimal}
+-- The subject: the items that a text reports, or its first fault, read from left to right. All of it is
+-- profile.
+use Rattle.std.specs.Prelude.{◌≡◌, ◌↔◌, ℕ, ◌+◌, ◌*◌, ◌^◌, Bool, true, false, ◌&&◌, ◌==◌, nat_le, nat_lt, if◌then◌else◌, [], ◌∷◌, List, ℤ, pos, ◌-ℤ◌, Option, Some, None, option_map, option_and_then, unwrap_or, ok_or, find, bytes_eq, Result, Ok, Err, decimal}
 use Rattle.std.specs.List.{AllByRecursion}
 use Rattle.std.specs.declared.alloc.Global.{Global}
 use Rattle.std.specs.declared.vec.Vec.{Vec}
@@ -103,7 +104,8 @@ span_read clock word channel start end from to = do
 
 -- the item of a kind with these fields
 abbrev pub item_of : ItemKind → ℕ → ℕ → ℕ → ℤ → ℕ → ℕ → Bool → Item
-item_of kind.Frequency channel start end tick value count mark = item.Frequency tick start end count value mark
+item_of kind.Frequency channel start end tick value count mark =
+    item.Frequency tick start end count value mark
 item_of kind.Basic channel start end tick value count mark = item.Basic channel start end count value mark
 item_of kind.Short channel start end tick value count mark = item.Short channel start end value mark
 item_of kind.Ten channel start end tick value count mark = item.Ten channel tick start end count value mark
@@ -125,6 +127,13 @@ item_read span tick value count mark = do
   c ← ok_or (passing (is_count_of span.kind) (number_read count)) 9
   m ← ok_or (mark_read span.kind mark) 10
   Ok (item_with span t v c m)
+
+-- the same, of the fields of a row
+abbrev pub span_of : Clock → RowFields → Result RowSpan ℕ
+span_of clock f = span_read clock f.kind.now f.channel.now f.start.now f.end.now f.from.now f.to.now
+
+abbrev pub item_behind : RowSpan → RowFields → Result Item ℕ
+item_behind span f = item_read span f.tick.now f.value.now f.count.now f.mark.now
 
 -- a row has ten fields, else the fault is field 0
 unfoldable pub fields_read : Clock → List Text → Result Item ℕ
@@ -176,7 +185,8 @@ parts_read clock _ = Err (fault.Field 1 0)
 abbrev pub report_read : Clock → Text → Result (List Item) ReportFault
 report_read clock text = parts_read clock (parted_at 10 text)
 
--- what a function that reads a report answers: the items or the fault that are read, or that there is no memory
+-- what a function that reads a report answers: the items or the fault that are read, or that there is no
+-- memory
 abbrev pub GivesItems : Result (Vec Item Global) ReportFault → Result (List Item) ReportFault → Type 0
 GivesItems result read = GivesUnless fault.OutOfMemory (λ v. v.items) result read
 

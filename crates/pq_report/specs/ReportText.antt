@@ -108,6 +108,16 @@ rows_text clock items = header ++ flat_map (item_row clock) items
 abbrev pub before_commas : List Text → Text
 before_commas fields = flat_map (λ field. field ++ 44 ∷ []) fields
 
+-- the first four fields, the three moments and the last three fields
+abbrev pub span_fields : Text → ℕ → ℕ → ℕ → List Text
+span_fields kind channel start end = kind ∷ decimal channel ∷ decimal start ∷ decimal end ∷ []
+
+abbrev pub moment_fields : Clock → ℕ → ℕ → Option ℤ → List Text
+moment_fields clock start end tick = place_text clock start ∷ place_text clock end ∷ tick_text tick ∷ []
+
+abbrev pub value_fields : ℕ → ℕ → Text → List Text
+value_fields value count mark = decimal value ∷ decimal count ∷ mark ∷ []
+
 -- a part of a text was pushed, or there was no memory for it
 abbrev pub Pushes : {E : Type 0} → Result (Unit {0}) E → Vec ℕ Global → Vec ℕ Global → Text → Type 0
 Pushes result old new part = OnOk result (new.items ≡ old.items ++ part)

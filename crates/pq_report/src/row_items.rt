@@ -1,6 +1,6 @@
 // The item of a row, by its ten fields.
 ghost use Rattle.std.specs.Prelude.{◌≡◌, ◌≤◌, IfSome};
-ghost use Rattle.pq_report.specs.ReportReading.{field_list, fields_read, is_channel_of, is_count_of, is_place, item_read, item_with, number_read, passing, span_read, tick_read};
+ghost use Rattle.pq_report.specs.ReportReading.{field_list, fields_read, is_channel_of, is_count_of, is_place, item_behind, item_with, number_read, passing, span_of, tick_read};
 ghost use Rattle.pq_time.specs.Time.{IsClock};
 
 use crate::cutting::RowFields;
@@ -34,8 +34,7 @@ pub(crate) fn read_item(clock: &Clock, fields: &RowFields) -> Result<Item, u32>
 #[tactic(auto, unfolding(crate::specs::ReportReading::span_read))]
 fn read_span(clock: &Clock, fields: &RowFields) -> Result<RowSpan, u32>
     requires clock { IsClock clock.now }
-    ensures { result ≡ span_read clock.now fields.now.kind.now fields.now.channel.now fields.now.start.now
-        fields.now.end.now fields.now.from.now fields.now.to.now }
+    ensures { result ≡ span_of clock.now fields.now }
 {
     let kind = ItemKind::read(fields.kind).ok_or(1_u32)?;
     let channel = read_channel(kind, fields.channel).ok_or(2_u32)?;
@@ -58,8 +57,7 @@ fn read_span(clock: &Clock, fields: &RowFields) -> Result<RowSpan, u32>
 // The item, by what the first six fields say and by the last four.
 #[tactic(auto, unfolding(crate::specs::ReportReading::item_read))]
 fn item_of_span(span: &RowSpan, fields: &RowFields) -> Result<Item, u32>
-    ensures { result ≡ item_read span.now fields.now.tick.now fields.now.value.now fields.now.count.now
-        fields.now.mark.now }
+    ensures { result ≡ item_behind span.now fields.now }
 {
     let tick = read_tick(span.kind, fields.tick).ok_or(7_u32)?;
     let value = read_number(fields.value).ok_or(8_u32)?;

@@ -1,12 +1,7 @@
 // The numbers and the ticks that fields write.
-ghost use Rattle.std.specs.Prelude.{◌≡◌, ◌<◌, ◌^◌, ℤ, IfSome, Some, bytes_eq, decimal, length};
-ghost use Rattle.pq_items.specs.ItemRange.{IsTickInRange};
+ghost use Rattle.std.specs.Prelude.{◌≡◌, ◌<◌, ◌^◌, IfSome, bytes_eq, decimal, length};
 ghost use Rattle.pq_report.specs.ReportReading.{number_read, second_read};
-ghost use Rattle.pq_report.specs.ReportText.{second_text};
-ghost use Rattle.pq_report.specs.ShownSecond.{IsShortDate, IsTime, seconds_in_day};
-ghost use Rattle.pq_time.specs.Moment.{day_number};
-ghost use Rattle.pq_time.specs.Printed.{hms_text, ymd_text};
-ghost use Rattle.pq_time.specs.Written.{CivilDate, TimeOfDay};
+ghost use Rattle.pq_report.specs.ShownSecond.{TellsDay, TellsSecond, TellsTime};
 ghost use Rattle.pq_words.specs.Magnitude.{IsWithin};
 
 use crate::moments::tick_moment;
@@ -57,7 +52,7 @@ pub(crate) fn read_second(field: &[u8]) -> Option<i64>
 
 // The second that a printed moment shows.
 fn shown_second(field: &[u8]) -> Option<i64>
-    ensures value { (second : ℤ) → IsTickInRange second → field.now ≡ second_text second → result ≡ Some second }
+    ensures value { TellsSecond field.now result }
     ensures within { IfSome result (IsWithin (10 ^ 15)) }
 {
     if field.len() < 19 {
@@ -71,7 +66,7 @@ fn shown_second(field: &[u8]) -> Option<i64>
 // The day number of a date `yyyy-mm-dd`.
 fn shown_day(field: &[u8]) -> Option<i64>
     requires { length field.now ≡ 10 }
-    ensures value { (d : CivilDate) → IsShortDate d → field.now ≡ ymd_text d → result ≡ Some (day_number d) }
+    ensures value { TellsDay field.now result }
     ensures within { IfSome result (IsWithin (10 ^ 7)) }
 {
     let year = read_digits(&field[..4], 4)?;
@@ -86,7 +81,7 @@ fn shown_day(field: &[u8]) -> Option<i64>
 // The seconds since midnight of a time `hh:mm:ss`.
 fn shown_time(field: &[u8]) -> Option<u64>
     requires { length field.now ≡ 8 }
-    ensures value { (t : TimeOfDay) → IsTime t → field.now ≡ hms_text t → result ≡ Some (seconds_in_day t) }
+    ensures value { TellsTime field.now result }
     ensures within { IfSome result (λ n. n < 10 ^ 6) }
 {
     let hour = read_digits(&field[..2], 2)?;

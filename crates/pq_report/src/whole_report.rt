@@ -1,7 +1,7 @@
 // The text of a whole report, into one buffer.
-ghost use Rattle.std.specs.Prelude.{◌≡◌, ◌∷◌, [], ◌≤◌, All, IfOk, IfSome, OnOk, decimal};
+ghost use Rattle.std.specs.Prelude.{◌≡◌, ◌≤◌, All, IfOk, IfSome, OnOk, decimal};
 ghost use Rattle.pq_items.specs.ItemRange.{IsItemInRange, IsTickInRange};
-ghost use Rattle.pq_report.specs.ReportText.{Pushes, before_commas, item_row, place_text, row_of, rows_text, tick_text};
+ghost use Rattle.pq_report.specs.ReportText.{Pushes, before_commas, item_row, moment_fields, row_of, rows_text, span_fields, tick_text, value_fields};
 ghost use Rattle.pq_time.specs.Time.{IsClock};
 
 use crate::kind::ItemKind;
@@ -54,8 +54,7 @@ fn push_span(
     start: u64,
     end: u64,
 ) -> Result<(), AllocError>
-    ensures { Pushes result text.old text.new
-        (before_commas (kind.now ∷ decimal channel ∷ decimal start ∷ decimal end ∷ [])) }
+    ensures { Pushes result text.old text.new (before_commas (span_fields kind.now channel start end)) }
 {
     text.extend_from_slice(kind.as_bytes())?;
     text.extend_from_slice(b",")?;
@@ -80,8 +79,7 @@ fn push_moments(
     requires start { start ≤ MOST_SAMPLES }
     requires end { end ≤ MOST_SAMPLES }
     requires tick { IfSome tick IsTickInRange }
-    ensures { Pushes result text.old text.new
-        (before_commas (place_text clock.now start ∷ place_text clock.now end ∷ tick_text tick ∷ [])) }
+    ensures { Pushes result text.old text.new (before_commas (moment_fields clock.now start end tick)) }
 {
     text.extend_from_slice(&place_moment(clock, start))?;
     text.extend_from_slice(b",")?;
@@ -94,7 +92,7 @@ fn push_moments(
 
 // Appends value, count and mark, and the line end.
 fn push_value(text: &mut Vec<u8>, value: u64, count: u64, mark: &str) -> Result<(), AllocError>
-    ensures { Pushes result text.old text.new (row_of (decimal value ∷ decimal count ∷ mark.now ∷ [])) }
+    ensures { Pushes result text.old text.new (row_of (value_fields value count mark.now)) }
 {
     push_number(text, value)?;
     text.extend_from_slice(b",")?;

@@ -38,8 +38,8 @@ pub fn analyse<R: Threads + Wait + Sync, K: Shelf, O: Sink, G: Gate + Sync>(
     }
 }
 
-/// Runs the command `check`, `intervals` or `emit` that the words say. It always returns, and promises what `analyse`
-/// does.
+/// Runs the command `check`, `intervals` or `emit` that the words say. It always returns, and promises what
+/// `analyse` does.
 pub fn still<K: Shelf, O: Sink>(
     alloc: Global,
     words: &[String],

@@ -92,7 +92,8 @@ firsts c x k (ws ∷ channels) least = (
 pub next_first : (channels : List (List Window)) (c start : ℕ) (x : Window) (xs : List Window) →
     AllByRecursion Rises channels → IsLeastFirst channels (length channels) c start →
     slice_get channels c ≡ Some (x ∷ xs) →
-    merged_windows channels ≡ record { channel = c; window = x } ∷ merged_windows (without_first channels c xs)
+    merged_windows channels ≡ record { channel = c; window = x }
+    ∷ merged_windows (without_first channels c xs)
 next_first channels c start x xs rise least is =
     let same : Some x.start ≡ Some start =
     sym (ap (λ o. first_of o) is) ∙ least.is_start in

@@ -40,6 +40,9 @@ fn emitted_files(rt: HostRuntime) -> Result<(), Fail> {
     }
     let dat = emitted(alloc, &["emit", "dat", "1"])?;
     assert_eq!(rt; dat.taken().len(), 10_113_600);
-    assert_eq!(rt; &dat.taken()[..14], [1, 0, 0, 0, 0, 0, 0, 0, 0, 0, 0, 0, 0, 0].as_slice());
+    assert_eq!(rt;
+        &dat.taken()[..14],
+        [1, 0, 0, 0, 0, 0, 0, 0, 0, 0, 0, 0, 0, 0].as_slice()
+    );
     Ok(())
 }

@@ -10,8 +10,8 @@ const FIRST: Status = Status::Selection { channel: 1 };
 
 const SECOND: Status = Status::Selection { channel: 2 };
 
-// refused_words_and_settings: thresholds out of order before any file is asked for, a wanted number at fault, and
-// a reference that isn't wanted; each by both calls.
+// refused_words_and_settings: thresholds out of order before any file is asked for, a wanted number at fault,
+// and a reference that isn't wanted; each by both calls.
 #[test]
 fn refused_words_and_settings(rt: HostRuntime) -> Result<(), Fail> {
     let alloc = rt.alloc();

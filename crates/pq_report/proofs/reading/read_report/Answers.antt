@@ -14,7 +14,11 @@ returns-in_err-in_row c =
     (report_read c.args.clock.now c.args.bytes.now) c.from_residual.ensures.1
     (report_fault c.args.clock.now c.args.bytes.now c.in-Some.header.now c.in-Some.rows.now
     c.in_err-in_row.field-0.0 c.in-Some.ensures.value is) in
-    record { value = given; within = given_within c.args.clock.now c.args.bytes.now c.from_residual.result given }
+    record {
+      value = given;
+      within = given_within c.args.clock.now c.args.bytes.now c.from_residual.result
+          given;
+    }
 
 -- the rows behind it
 pub returns : goal.returns
@@ -23,5 +27,6 @@ returns c =
     ap (in_row 1) (sym c.read_header.ensures) ∙ sym c.in_row.ensures ∙ c.in_ok-in_row.was in
     let given = given_rows c.read_rows.result (rows_read c.args.clock.now 2 (parted_at 10 c.in-Some.rows.now))
     (report_read c.args.clock.now c.args.bytes.now) (report_rows c.args.clock.now c.args.bytes.now
-    c.in-Some.header.now c.in-Some.rows.now c.in_ok-in_row.field-0 c.in-Some.ensures.value is) c.read_rows.ensures in
+    c.in-Some.header.now c.in-Some.rows.now c.in_ok-in_row.field-0 c.in-Some.ensures.value is)
+    c.read_rows.ensures in
     record { value = given; within = given_within c.args.clock.now c.args.bytes.now c.read_rows.result given }

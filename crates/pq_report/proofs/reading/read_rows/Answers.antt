@@ -9,10 +9,13 @@ pub returns-in_err-in_row : goal.returns-in_err-in_row
 returns-in_err-in_row c =
     let clock = c.args.clock.now in
     let row = c.loop-line.row in
-    let is : in_row row (fields_read clock (parted_at 44 c.in-Some.line.now)) ≡ Err c.in_err-in_row.field-0.0 =
+    let is : in_row row (fields_read clock (parted_at 44 c.in-Some.line.now)) ≡ Err
+    c.in_err-in_row.field-0.0 =
     ap (in_row row) (sym c.read_row.ensures) ∙ sym c.in_row.ensures ∙ c.in_err-in_row.was in
-    fault_given c.from_residual.result c.in_err-in_row.field-0.0 (rows_read clock 2 (parted_at 10 c.args.bytes.now))
-    c.from_residual.ensures.1 (c.loop-line.invariant.read ∙ rows_fault clock row c.in-Some.line.now c.in-Some.after.now
+    fault_given c.from_residual.result c.in_err-in_row.field-0.0 (rows_read clock 2
+    (parted_at 10 c.args.bytes.now))
+    c.from_residual.ensures.1 (c.loop-line.invariant.read
+    ∙ rows_fault clock row c.in-Some.line.now c.in-Some.after.now
     c.loop-line.rest.now c.loop-line.items.items c.in_err-in_row.field-0.0 c.in-Some.ensures.value is)
 
 -- one item more
@@ -33,10 +36,12 @@ loop-line-preserved c =
 -- a row without a line end
 pub returns-then-not-is_empty : goal.returns-then-not-is_empty
 returns-then-not-is_empty c = inr (c.loop-line.invariant.read ∙ rows_unended c.args.clock.now c.loop-line.row
-    c.loop-line.rest.now c.loop-line.items.items c.is_empty.result c.in_default.ensures.none c.is_empty.ensures
+    c.loop-line.rest.now c.loop-line.items.items c.is_empty.result c.in_default.ensures.none
+    c.is_empty.ensures
     c.if-not-is_empty.true)
 
 pub returns : goal.returns
 returns c = c.loop-line.invariant.read ∙ rows_done c.args.clock.now c.loop-line.row
-    c.loop-line.rest.now c.loop-line.items.items c.is_empty.result c.in_default.ensures.none c.is_empty.ensures
+    c.loop-line.rest.now c.loop-line.items.items c.is_empty.result c.in_default.ensures.none
+    c.is_empty.ensures
     c.if-not-is_empty.false

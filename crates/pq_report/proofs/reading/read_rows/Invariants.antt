@@ -1,4 +1,4 @@
-use Rattle.std.proofs.Common.{◌≡◌, ◌+◌, ◌≤◌, ◌^◌, ◌++◌, length, Ok}
+use Rattle.std.proofs.Common.{◌≡◌, ◌+◌, ◌≤◌, length}
 use Rattle.pq_report.specs.ReportReading.{rows_read}
 use Rattle.pq_report.proofs.ReadingLaws.{after_items}
 use Rattle.pq_report.proofs.reading.read_rows.Given as goal

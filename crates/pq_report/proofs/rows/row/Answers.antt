@@ -8,7 +8,12 @@ pub returns : goal.returns
 returns c =
     let clock = c.args.clock.now in
     let i = c.args.item.now in
-    let small : IsReportable i = record { range = c.requires.within; value = omega arith; count = omega arith } in
+    let small : IsReportable i = record {
+      range = c.requires.within;
+      value = omega arith;
+      count =
+          omega arith;
+    } in
     written_row clock i c.text_of.result _ c.text_of.ensures small (ten_fields
     (c.as_bytes.ensures.value ∙ c.word.ensures ∙ ap kind_word c.of-kind.ensures)
     (c.as_bytes-2.ensures.value ∙ c.format.ensures.text ∙ ap decimal c.channel.ensures)
@@ -20,4 +25,5 @@ returns c =
     (c.as_bytes-5.ensures.value ∙ c.format-4.ensures.text ∙ ap decimal c.value.ensures)
     (c.as_bytes-6.ensures.value ∙ c.format-5.ensures.text ∙ ap decimal c.count.ensures)
     (c.as_bytes-7.ensures.value ∙ c.mark_word.ensures
-    ∙ ap (λ k. mark_word k c.has_mark.result) c.of-kind.ensures ∙ ap (mark_word (kind_of i)) c.has_mark.ensures))
+    ∙ ap (λ k. mark_word k c.has_mark.result) c.of-kind.ensures
+    ∙ ap (mark_word (kind_of i)) c.has_mark.ensures))

@@ -1,4 +1,4 @@
-use Rattle.std.proofs.Common.{◌≡◌, ◌∙◌, ap, arith, sym, pos, Some, true, false, to_z, w16, w8}
+use Rattle.std.proofs.Common.{◌≡◌, ◌∙◌, ap, arith, pos, Some, true, false, to_z, w16, w8}
 use Rattle.std.proofs.lemmas.Int.{ints}
 use Rattle.jiff_core.specs.Calendar.{days_from_civil}
 use Rattle.pq_report.proofs.TickLemmas.{day_is, days_few, month_is, signed_date, year_is}
@@ -13,7 +13,15 @@ returns-in-Ok-clause-value c d h is =
     let made = c.in-Ok.ensures.value in
     let y : c.in-Ok.date.year ≡ pos d.year = omega (arith, ints, made, year) in
     let m : c.in-Ok.date.month ≡ d.month = omega (arith, ints, made, month) in
-    let k : c.in-Ok.date.day ≡ d.day = omega (arith, ints, made, day, h.date.2, days_few (pos d.year) d.month) in
+    let k : c.in-Ok.date.day ≡ d.day = omega (
+      arith,
+      ints,
+      made,
+      day,
+      h.date.2,
+      days_few
+          (pos d.year) d.month,
+    ) in
     let same : c.to_unix_epoch_day.result ≡ day_number d =
     c.to_unix_epoch_day.ensures.value ∙ (λ i. days_from_civil (y i) (m i) (k i)) in
     ap Some (omega (arith, ints, c.from.ensures, same, c.to_unix_epoch_day.ensures.bound))

@@ -1,4 +1,4 @@
-use Rattle.std.proofs.Common.{◌≡◌, ◌∙◌, ap, arith, length, take, drop, sym, Some, None, refl}
+use Rattle.std.proofs.Common.{◌≡◌, ◌∙◌, ap, arith, length, take, drop, Some}
 use Rattle.std.proofs.lemmas.Int.{ints}
 use Rattle.pq_report.specs.ShownSecond.{IsTime, seconds_in_day}
 use Rattle.pq_report.proofs.TickLemmas.{day_part, length_text, second_by_parts, short_date, shown, text_is, time_part}

@@ -12,5 +12,6 @@ returns-in-Ok g c =
     let w : Writing = writing_of g.O.Sink c.args.out.now c.write_text.new.out in
     let text : Text = c.in-Ok.report in
     written (analyse_course c.args.words.now)
-    (reading_of g.K.Shelf c.args.shelf.now c.analysed_text.new.shelf) w text c.write_text.result c.in-Ok.ensures
+    (reading_of g.K.Shelf c.args.shelf.now c.analysed_text.new.shelf) w text c.write_text.result
+    c.in-Ok.ensures
     (subst (λ (t : Text). IsWritten t w c.write_text.result) c.bytes.ensures c.write_text.ensures)

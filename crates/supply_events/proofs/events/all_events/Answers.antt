@@ -31,9 +31,10 @@ loop-window-init c =
 pub step-requires : goal.step-requires
 step-requires c =
     let channels = c.args.channels in
-    let there = subst (λ (ws : List ChannelWindow). All (λ m. m.channel < channels) ws) c.in-Some.ensures.steps
-    c.loop-window.invariant.there in
-    let inside = All-head (λ (m : ChannelWindow). m.channel < channels) c.in-Some.window c.next.new.self there in
+    let there = subst (λ (ws : List ChannelWindow). All (λ m. m.channel < channels) ws)
+    c.in-Some.ensures.steps c.loop-window.invariant.there in
+    let inside = All-head (λ (m : ChannelWindow). m.channel < channels) c.in-Some.window c.next.new.self
+    there in
     subst (λ k. c.window.inside.position < k) (sym c.loop-window.invariant.fed.1.channels_kept)
     (subst (λ k. k < channels) (sym (ap (λ (m : ChannelWindow). m.channel) c.window.view_is)) inside)
 
@@ -56,7 +57,8 @@ loop-window-preserved c =
           parts = append_assoc fed (window ∷ []) rest ∙ ap (λ ws. fed ++ ws) (sym steps) ∙ before.parts;
           channels_kept = c.step.ensures.same ∙ before.channels_kept;
           limits_kept = c.step.ensures.limits ∙ before.limits_kept;
-          seen = subst (λ w. HasSeen c.step.new.self (fed ++ w ∷ [])) same (c.step.ensures.seen fed before.seen);
+          seen = subst (λ w. HasSeen c.step.new.self (fed ++ w ∷ [])) same
+              (c.step.ensures.seen fed before.seen);
           found = λ kind. ended_more kind limits channels fed window (answer_of kind c.step.result)
               (events_of c.loop-window.lists kind) (events_of c.push_answers.new.self kind)
               (ends_there kind c.loop-window.poly.limits limits c.loop-window.poly.channels channels fed m
