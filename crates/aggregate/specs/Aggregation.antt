@@ -113,7 +113,8 @@ ten_groups clock n channels basics =
 abbrev pub has_tick : ℤ → Group → Bool
 has_tick tick g = option_map_or (int_eq tick) g.tick false
 
--- the 2-hour interval of a tick: the twelve 10-minute intervals from it on (4.5), where all are there (profile)
+-- the 2-hour interval of a tick: the twelve 10-minute intervals from it on (4.5), where all are there
+-- (profile)
 unfoldable pub two_hour_group : ℕ → List Group → ℤ → Option Group
 two_hour_group channels tens tick =
     let twelve = filter_map (λ t. find (has_tick t) tens) (steps_from tick 600 12) in

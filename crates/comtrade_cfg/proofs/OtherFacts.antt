@@ -71,9 +71,9 @@ pub printed_2013 : option_map {U = ℤ × Text} (λ c. (c.first, canonical_text 
     (result_ok (configuration_of cfg_32)) ≡ Some (pos 1709294401000000000, canonical_32)
 unfolding digits canonical_text date_shown first_between first_of text_field number_field position_field
     decimal_text decimal_field channel_count frequency_field rate_field samples_field leap_field
-    station_fields analogue_fields status_fields configuration_of configuration_ahead lines_behind channel_lines decimal_of written_moment
-    date_of time_of
-    code_of minutes_of days_from_civil day_count days_of_years days_of_months
+    station_fields analogue_fields status_fields configuration_of configuration_ahead lines_behind
+    channel_lines decimal_of written_moment date_of time_of code_of minutes_of days_from_civil day_count
+    days_of_years days_of_months
 printed_2013 = refl
 
 -- its channels 1 to 4 are selected; a current, an absent and a repeated one are refused

@@ -3,7 +3,8 @@ use Rattle.std.specs.Prelude.{◌≡◌, ℕ, ◌+◌, ◌*◌, ◌<◌, ◌≤�
 use Rattle.pq_generate.specs.GeneratedRecording.{count_at, dat_text, disturbance_of, disturbances}
 use Rattle.pq_words.specs.Magnitude.{IsWithin}
 
--- the disturbance of an index lies in the 3000 cycles of its index, and neither at their begin nor at their end
+-- the disturbance of an index lies in the 3000 cycles of its index, and neither at their begin nor at their
+-- end
 pub record DisturbancesLieWithin : Type 0 where
   pub begin : (seed index : ℕ) → 3000 * index + 100 ≤ (disturbance_of seed index).first_cycle
   pub end : (seed index : ℕ) →

@@ -161,8 +161,9 @@ unfolding settings_limits dat_report selected_configuration selected_of samples_
     lines_behind channel_lines decimal_of written_moment date_of clock_time_of days_from_civil day_count
     days_of_years days_of_months report_text header sequential in_order items_under readings short_groups
     ten_groups two_hour_groups all_polyphase_events merged_windows conditions begins ends latest events
-    extents event_from successors windows windows_over tick_places ticks place_of time_of fronts front_of basic_runs runs
-    cycle_boundaries boundaries first_boundary rule_of first_between first_of numbers_from steps_from
+    extents event_from successors windows windows_over tick_places ticks place_of time_of fronts front_of
+    basic_runs runs cycle_boundaries boundaries first_boundary rule_of first_between first_of numbers_from
+    steps_from
 empty_recording = refl
 
 -- no file is needed for words that are not understood, for commands of the other call, and for thresholds out
