@@ -1,6 +1,6 @@
 -- The subject: the recording that a number makes, its seed: a sine on three channels, disturbed ten times,
--- as the bytes of its cfg and its dat. All of it is this project's choice (profile), but for the record, which
--- is that of C37.111, binary data record.
+-- as the bytes of its cfg and its dat. All of it is this project's choice (profile), but for the record,
+-- which is that of C37.111, binary data record.
 use Rattle.std.specs.Prelude.{ℕ, zero, suc, ◌+◌, ◌-◌, ◌*◌, ◌/◌, ◌%◌, ◌^◌, Bool, ◌&&◌, ◌==◌, nat_le, nat_lt, if◌then◌else◌, List, [], ◌∷◌, ◌++◌, map, fold, slice_index_or, ℤ, pos, neg_ℤ, ◌*ℤ◌, int_div, codes}
 use Rattle.std.specs.Int.{w16, w32, cast_unsigned, to_le_bytes}
 use Rattle.std.specs.List.{flat_map}
