@@ -25,7 +25,7 @@ fn emitted(alloc: Global, words: &[&str]) -> Result<MemSink, Fail> {
     let mut sink = MemSink::new(alloc, 11_000_000, Vec::new(alloc), 1_000_000)?;
     let status = still(alloc, &strings(alloc, words)?, &mut shelf, &mut sink);
     if status != Status::Done {
-        return Err(Fail);
+        return Err(Fail::new(status.code()));
     }
     Ok(sink)
 }
