@@ -125,7 +125,7 @@ fn measurements(rt: HostRuntime) -> Result<(), Fail> {
                 Ok(Command::Analyse(measuring)) => name == "analyse" && is_said(&measuring, &said),
                 _ => false,
             };
-            assert!(rt; understood, "{name} {words:?}");
+            assert!(rt; understood, "{words:?}");
         }
     }
     Ok(())
