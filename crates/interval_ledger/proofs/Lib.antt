@@ -1,0 +1,5 @@
+mod EarliestStep
+mod OutboxLaws
+mod PlaceRises
+mod SegmentLaws
+mod WatchLaws

@@ -1,0 +1,8 @@
+-- STUB until settled_laws lands
+use Rattle.std.specs.Prelude.{ℕ, max, List, [], ◌∷◌}
+use Rattle.event_detect.specs.declared.event.Event.{Event}
+
+-- the greatest end, and 0 of none
+unfoldable pub greatest_end : List Event → ℕ
+greatest_end [] = 0
+greatest_end (e ∷ es) = max e.end (greatest_end es)

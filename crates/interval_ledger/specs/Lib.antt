@@ -1,0 +1,9 @@
+pub mod Channel
+pub mod Earliest
+pub mod Greatest
+pub mod NextDue
+pub mod Outbox
+pub mod Queue
+pub mod Segment
+pub mod Touch
+pub mod Watch

@@ -1,0 +1,15 @@
+//! The ledger of posted items.
+#![tactic(auto)]
+
+pub use outbox::Outbox;
+pub use steps::Steps;
+
+mod channel;
+mod first_start;
+mod next_due;
+mod outbox;
+mod queue;
+mod segments;
+mod steps;
+mod tick_places;
+mod watch;
