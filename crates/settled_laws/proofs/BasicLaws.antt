@@ -1,6 +1,6 @@
 -- A basic interval and the one before it: when it begins a segment, told by their starts and the places of
 -- ticks.
-use Rattle.std.proofs.Common.{◌≡◌, ℕ, ◌+◌, ◌-◌, ◌<◌, ◌≤◌, ◌&&◌, Bool, true, false, nat_lt, nat_le, List, [], ◌∷◌, length, ℤ, Option, Some, None, refl, sym, ap, subst, arith}
+use Rattle.std.proofs.Common.{◌≡◌, ℕ, ◌-◌, ◌<◌, ◌≤◌, ◌&&◌, Bool, true, false, nat_lt, nat_le, List, [], ◌∷◌, length, ℤ, Option, Some, None, refl, sym, arith}
 use Rattle.std.specs.Bool.{⊤}
 use Rattle.std.specs.List.{list_any}
 use Rattle.std.proofs.lemmas.Bool.Decides.{nat_tests}
@@ -109,8 +109,8 @@ module _ (clock : Clock) (n : ℕ) (x y : Basic) (follows : Follows clock n x y)
   succeeds = (let rise = follows.ends in omega (arith, rise), told, over)
 
 -- basic intervals in order are linked
-pub order_linked : (clock : Clock) (n : ℕ) (bs : List Basic) → BeginsAtFront bs → Linked (Follows clock n) bs →
-    AreLinked (tick_places clock n) bs
+pub order_linked : (clock : Clock) (n : ℕ) (bs : List Basic) → BeginsAtFront bs →
+    Linked (Follows clock n) bs → AreLinked (tick_places clock n) bs
 order_linked clock n [] first follow = tt
 order_linked clock n (b ∷ bs) first follow = (first, at b bs follow)
   where

@@ -6,3 +6,6 @@ pub mod TwoLaws
 pub mod TickLaws
 pub mod BasicLaws
 pub mod BuildLaws
+pub mod FewRuns
+pub mod FewBasics
+pub mod IntervalLaws

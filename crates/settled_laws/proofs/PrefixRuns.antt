@@ -1,5 +1,5 @@
 -- Runs over more elements: those over the elements so far stay, and all others end later.
-use Rattle.std.proofs.Common.{◌≡◌, ℕ, zero, suc, ◌+◌, ◌-◌, ◌%◌, ◌<◌, ◌≤◌, Bool, true, false, cond, ◌==◌, nat_le, None, List, [], ◌∷◌, ◌++◌, length, map, filter, refl, sym, ◌∙◌, ap, arith}
+use Rattle.std.proofs.Common.{◌≡◌, ℕ, zero, suc, ◌+◌, ◌-◌, ◌%◌, ◌<◌, ◌≤◌, Bool, true, false, cond, ◌==◌, nat_le, None, List, [], ◌∷◌, ◌++◌, length, map, filter, refl, ◌∙◌, ap, arith}
 use Rattle.std.specs.List.{AllByRecursion, enumerate_from, last_or}
 use Rattle.std.specs.Option.{option_map_or}
 use Rattle.std.proofs.lemmas.Bool.Decides.{nat_tests}
@@ -16,7 +16,8 @@ numbers_all : (P : ℕ → Type 0) (p : ℕ → Bool) (low n : ℕ) → ((x : �
 unfolding numbers_from
 numbers_all P p low zero h = tt
 numbers_all P p low (suc n) h =
-    at (p low) (numbers_all P p (low + 1) n (λ x from below. h x (omega (arith, from)) (omega (arith, below))))
+    at (p low)
+    (numbers_all P p (low + 1) n (λ x from below. h x (omega (arith, from)) (omega (arith, below))))
   where
     at : (b : Bool) → AllByRecursion P (filter p (numbers_from (low + 1) n)) →
         AllByRecursion P (cond b (low ∷ filter p (numbers_from (low + 1) n))

@@ -1,0 +1,2 @@
+pub mod FewIntervals
+pub mod SettledIntervals
