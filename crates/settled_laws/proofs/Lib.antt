@@ -1,3 +1,7 @@
+pub mod ListLaws
+pub mod LinkedLaws
+pub mod MovedLaws
+pub mod RiseLaws
 pub mod PrefixRuns
 pub mod NextRun
 pub mod ShortLaws
