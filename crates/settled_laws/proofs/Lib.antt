@@ -13,3 +13,6 @@ pub mod BuildLaws
 pub mod FewRuns
 pub mod FewBasics
 pub mod IntervalLaws
+pub mod FrontLaws
+pub mod CutLaws
+mod IntervalFacts
