@@ -16,3 +16,11 @@ pub mod IntervalLaws
 pub mod FrontLaws
 pub mod CutLaws
 mod IntervalFacts
+pub mod ClimbLaws
+pub mod SpacedLaws
+pub mod ContinueLaws
+pub mod SettledEvents
+pub mod TouchLaws
+pub mod SettledLaws
+pub mod EarlyLaws
+pub mod TouchedLaws
