@@ -1,5 +1,4 @@
 pub mod ListLaws
-pub mod LinkedLaws
 pub mod MovedLaws
 pub mod RiseLaws
 pub mod PrefixRuns
