@@ -1,5 +1,5 @@
 -- Of a recording: the intervals that end by a place are told by the basic intervals that end by it.
-use Rattle.std.proofs.Common.{◌≡◌, ℕ, ◌<◌, Bool, true, false, cond, not, nat_le, List, [], ◌∷◌, ◌++◌, length, filter, zip, drop, ℤ, refl, sym, ◌∙◌, ap, subst, inl, inr, arith}
+use Rattle.std.proofs.Common.{◌≡◌, ℕ, ◌<◌, false, not, nat_le, List, [], ◌∷◌, ◌++◌, length, filter, zip, drop, ℤ, refl, ◌∙◌, ap, subst, inl, inr, arith}
 use Rattle.std.specs.List.{AllByRecursion}
 use Rattle.std.proofs.lemmas.Bool.Decides.{nat_tests}
 use Rattle.aggregate.specs.Aggregation.{Basic, tick_pairs}
@@ -12,10 +12,10 @@ use Rattle.pq_sequence.proofs.NeighbourLaws.{IsIn, mapped_in}
 use Rattle.pq_sequence.proofs.ResultLaws.{rule_of_recording}
 use Rattle.pq_time.specs.declared.clock.Clock.{Clock}
 use Rattle.pq_time.specs.Tick.{tick_place, ticks}
-use Rattle.pq_words.proofs.PrefixLaws.{FailsOn}
 use Rattle.settled_laws.specs.SettledIntervals.{IntervalsAreSettled, basics_by, groups_by}
 use Rattle.settled_laws.proofs.BasicLaws.{AreLinked, recorded_linked}
 use Rattle.settled_laws.proofs.BuildLaws.{front_rises, linked_fail, linked_rise, linked_segment}
+use Rattle.settled_laws.proofs.ListLaws.{all_fail, all_from, filter_splits}
 use Rattle.settled_laws.proofs.ShortLaws.{IsAfter, shorts_settled}
 use Rattle.settled_laws.proofs.TenLaws.{EndsSegment, tens_settled}
 use Rattle.settled_laws.proofs.TickLaws.{EndsRise, two_hours_settled}
@@ -28,54 +28,18 @@ use Rattle.zero_cross.proofs.BoundaryLaws.{cycles_lie}
 abbrev pub basics_past : ℕ → List Basic → List Basic
 basics_past w basics = filter (λ b. not (nat_le b.part.end w)) basics
 
-parted_none : (p : Basic → Bool) (bs : List Basic) → AllByRecursion (λ b. p b ≡ false) bs →
-    bs ≡ filter p bs ++ filter (λ b. not (p b)) bs
-parted_none p [] h = refl
-parted_none p (b ∷ bs) h = at (p b) h.0 (none bs h.1) (parted_none p bs h.1)
-  where
-    none : (bs : List Basic) → AllByRecursion (λ b. p b ≡ false) bs → filter p bs ≡ []
-    none [] h = refl
-    none (b ∷ bs) h = ap (λ c. cond c (b ∷ filter p bs) (filter p bs)) h.0 ∙ none bs h.1
-
-    at : (c : Bool) → c ≡ false → filter p bs ≡ [] → bs ≡ filter p bs ++ filter (λ b. not (p b)) bs →
-        b ∷ bs ≡ cond c (b ∷ filter p bs) (filter p bs)
-        ++ cond (not c) (b ∷ filter (λ b. not (p b)) bs) (filter (λ b. not (p b)) bs)
-    at true fails none rest = absurd (let bad : ⊥ = cc in bad)
-    at false fails none rest =
-        let whole : bs ≡ filter (λ b. not (p b)) bs =
-        rest ∙ ap (λ xs. xs ++ filter (λ b. not (p b)) bs) none in
-        ap (λ xs. b ∷ xs) whole ∙ sym (ap (λ xs. xs ++ b ∷ filter (λ b. not (p b)) bs) none)
-
-parted : (p : Basic → Bool) (bs : List Basic) → FailsOn p bs →
-    bs ≡ filter p bs ++ filter (λ b. not (p b)) bs
-parted p [] h = refl
-parted p (b ∷ bs) h = at (p b) refl (parted p bs h.1)
-  where
-    at : (c : Bool) → p b ≡ c → bs ≡ filter p bs ++ filter (λ b. not (p b)) bs →
-        b ∷ bs ≡ cond c (b ∷ filter p bs) (filter p bs)
-        ++ cond (not c) (b ∷ filter (λ b. not (p b)) bs) (filter (λ b. not (p b)) bs)
-    at true is rest = ap (λ xs. b ∷ xs) rest
-    at false is rest =
-        let all = parted_none p (b ∷ bs) (is, h.0 is) in
-        subst (λ c. b ∷ bs ≡ cond c (b ∷ filter p bs) (filter p bs)
-        ++ cond (not c) (b ∷ filter (λ b. not (p b)) bs) (filter (λ b. not (p b)) bs)) is all
-
 -- the basic intervals of a list whose ends do not fall: first those that end by a place
 pub basics_parted : (places : List ℕ) (w : ℕ) (bs : List Basic) → AreLinked places bs →
     bs ≡ basics_by w bs ++ basics_past w bs
-basics_parted places w bs l = parted (λ b. nat_le b.part.end w) bs (linked_fail places w bs l)
+basics_parted places w bs l = filter_splits (λ b. nat_le b.part.end w) bs (linked_fail places w bs l)
 
 pub past_after : (w : ℕ) (bs : List Basic) → AllByRecursion (IsAfter w) (basics_past w bs)
-past_after w [] = tt
-past_after w (b ∷ bs) = at (nat_le b.part.end w) refl (past_after w bs)
+past_after w bs =
+    all_from (λ b. nat_le b.part.end w ≡ false) (IsAfter w) (λ b fails. after b.part.end fails)
+    (basics_past w bs) (all_fail (λ b. nat_le b.part.end w) bs)
   where
-    after : nat_le b.part.end w ≡ false → w < b.part.end
-    after is = grind (arith, nat_tests, is)
-
-    at : (c : Bool) → nat_le b.part.end w ≡ c → AllByRecursion (IsAfter w) (basics_past w bs) →
-        AllByRecursion (IsAfter w) (cond (not c) (b ∷ basics_past w bs) (basics_past w bs))
-    at true is rest = rest
-    at false is rest = (after is, rest)
+    after : (e : ℕ) → nat_le e w ≡ false → w < e
+    after e is = grind (arith, nat_tests, is)
 
 -- ---- each tick that follows another ends a segment
 

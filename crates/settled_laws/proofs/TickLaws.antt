@@ -13,18 +13,13 @@ use Rattle.pq_time.specs.Tick.{ticks, tick_place, moment_of}
 use Rattle.pq_time.proofs.PlaceLaws.{place_rises}
 use Rattle.aggregate.specs.declared.group.Group.{Group}
 use Rattle.aggregate.specs.Aggregation.{Basic, group_of, parts_of, is_front_from, segment_end, reaches, ten_group, ten_groups, tick_pairs, has_tick, two_hour_group, two_hour_groups}
+use Rattle.settled_laws.proofs.ListLaws.{all_each}
+use Rattle.settled_laws.proofs.RiseLaws.{second_later}
 use Rattle.settled_laws.proofs.ShortLaws.{IsAfter, ends_by, basic_end, group_end}
 use Rattle.settled_laws.proofs.TenLaws.{settled, EndsSegment, ten_over, ten_found, ten_settled, filter_map_settled, first_at, none_at}
 use Rattle.settled_laws.proofs.TwoLaws.{two_over, same_settled, two_carried}
 use Rattle.pq_words.specs.First.{first_between}
 use Rattle.pq_words.specs.Steps.{steps_from}
-
-second_later : (second : ℤ) (step : ℕ) → moment_of second ≤ℤ moment_of (second +ℤ pos step)
-second_later second step = omega (arith, ints)
-
-all_each : {X : Type 0} (P : X → Type 0) → ((x : X) → P x) → (xs : List X) → AllByRecursion P xs
-all_each P f [] = tt
-all_each P f (x ∷ xs) = (f x, all_each P f xs)
 
 -- ---- the pairs of ticks have different first ticks
 

@@ -140,13 +140,13 @@ module _ (f : ℤ → Option Group) where
         twelve_of : (n : ℕ) → (n == 12) ≡ true → n ≡ 12
         twelve_of n e = grind (arith, nat_tests, e)
 
-        pub two_carried : (channels : ℕ) (tick : ℤ) (g : Group) → two_over channels f tick ≡ Some g → g.end ≤ w
-            → two_over channels h tick ≡ Some g
+        pub two_carried : (channels : ℕ) (tick : ℤ) (g : Group) → two_over channels f tick ≡ Some g
+            → g.end ≤ w → two_over channels h tick ≡ Some g
         unfolding group_of
         two_carried channels tick g e by =
             let twelve = filter_map f (steps_from tick 600 12) in
-            let parts = cond_some (length twelve == 12) (group_of (Some tick) channels (map as_part twelve)) g e
-            in
+            let group : Group = group_of (Some tick) channels (map as_part twelve) in
+            let parts = cond_some (length twelve == 12) group g e in
             let all = all_found tick 12 (twelve_of (length twelve) parts.0) in
             let ends : last_end (map as_part twelve) ≤ w = subst (λ x. x.end ≤ w) (sym parts.1) by in
             let us = all_by tick 11 all ends in

@@ -8,6 +8,7 @@ use Rattle.pq_sequence.specs.BasicInterval.{cycles_of}
 use Rattle.pq_sequence.specs.MeasuredRecording.{basics_of, channel_count, channel_windows, clock_of, readings_of, recorded_places, recorded_rule, reference_cycles}
 use Rattle.pq_time.specs.Tick.{ticks}
 
+-- there are few of each, whatever the samples are
 pub record IntervalsAreFew : Type 0 where
   -- basic intervals (5.2): one for as many samples as their cycles have at least, and one more for each
   -- 10-minute tick

@@ -1,5 +1,6 @@
 -- The subject: the law that an interval of 150/180 cycles, 10 minutes or 2 hours that ends by a place is told
--- by the basic intervals that end by it (4.5); later ones change neither its span nor its values nor its flag.
+-- by the basic intervals that end by it (4.5): later ones change neither its span nor its values nor its
+-- flag (4.7).
 -- Sections are those of IEC 61000-4-30:2015; "profile" marks a choice of this project.
 use Rattle.std.specs.Prelude.{◌≡◌, ℕ, nat_le, List, filter}
 use Rattle.aggregate.specs.declared.group.Group.{Group}
@@ -22,6 +23,7 @@ AreSettled made = (r : Recorded) (events : List Event) (w : ℕ) → IsRecording
     groups_by w (made r (basics_of r events (reference_cycles r)))
     ≡ groups_by w (made r (basics_by w (basics_of r events (reference_cycles r))))
 
+-- the intervals of all three lengths are told so (4.5)
 pub record IntervalsAreSettled : Type 0 where
   pub shorts : AreSettled shorts_of
   pub tens : AreSettled tens_of
