@@ -6,8 +6,8 @@ use Rattle.event_detect.specs.declared.kind.Kind.{Kind}
 use Rattle.event_detect.specs.declared.kind.Kind.TheVariants.{Dip, Swell, Interruption}
 use Rattle.event_detect.specs.declared.limits.Limits.{Limits}
 use Rattle.event_detect.specs.VoltageEvent.{event_from, extents, ended_events}
-use Rattle.interval_ledger.specs.Greatest.{greatest_end}
-use Rattle.interval_ledger.specs.Touch.{latest_end}
+use Rattle.settled_laws.specs.Greatest.{greatest_end}
+use Rattle.settled_laws.specs.Touch.{latest_end}
 use Rattle.interval_ledger.specs.Watch.{HasSeen, NotesEnds, SeesMore, WatchView, end_of_kind, later_end}
 use Rattle.polyphase.specs.Poly.{Ends, HasSeen as HasSeenByPoly, PolyView, SeesMore as PolySeesMore, answer_of}
 use Rattle.polyphase.specs.PolyphaseEvent.{ChannelWindow, conditions}

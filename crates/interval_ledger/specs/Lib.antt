@@ -1,9 +1,8 @@
 pub mod Channel
 pub mod Earliest
-pub mod Greatest
+pub mod Merged
 pub mod NextDue
 pub mod Outbox
 pub mod Queue
 pub mod Segment
-pub mod Touch
 pub mod Watch

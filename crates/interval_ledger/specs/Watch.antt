@@ -1,5 +1,6 @@
 -- What contracts see of a watch: a Poly, and for each kind the greatest end of the events that it has ended.
 use Rattle.std.specs.Prelude.{◌≡◌, ℕ, Bool, max, List, [], ◌∷◌, ◌++◌, Option}
+use Rattle.std.specs.List.{list_any}
 use Rattle.std.specs.Option.{option_map_or}
 use Rattle.event_detect.specs.declared.event.Event.{Event}
 use Rattle.event_detect.specs.declared.kind.Kind.{Kind}
@@ -7,7 +8,7 @@ use Rattle.event_detect.specs.declared.kind.Kind.TheVariants.{Dip, Swell, Interr
 use Rattle.event_detect.specs.declared.limits.Limits.{Limits}
 use Rattle.polyphase.specs.Poly.{PolyView, HasSeen as HasSeenByPoly, answer_of}
 use Rattle.polyphase.specs.PolyphaseEvent.{ChannelWindow, kinds}
-use Rattle.interval_ledger.specs.Touch.{any_kind, latest_end, touches_now}
+use Rattle.settled_laws.specs.Touch.{latest_end, touches_now}
 
 pub record WatchView : Type 0 where
   pub poly : PolyView
@@ -52,4 +53,4 @@ TellsKind w kind start answer = (fed : List ChannelWindow) → HasSeen w fed →
 -- and so of all kinds
 abbrev pub TellsTouch : WatchView → ℕ → Bool → Type 0
 TellsTouch w start answer = (fed : List ChannelWindow) → HasSeen w fed →
-    answer ≡ any_kind (λ kind. touches_now kind w.poly.limits w.poly.channels start fed) kinds
+    answer ≡ list_any (λ kind. touches_now kind w.poly.limits w.poly.channels start fed) kinds

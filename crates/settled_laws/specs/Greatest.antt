@@ -1,4 +1,5 @@
--- STUB until settled_laws lands
+-- The subject: the greatest end of some events, by which a span is told to be touched where all of them begin
+-- before its end. Profile.
 use Rattle.std.specs.Prelude.{ℕ, max, List, [], ◌∷◌}
 use Rattle.event_detect.specs.declared.event.Event.{Event}
 

@@ -1,0 +1,4 @@
+pub mod FewIntervals
+pub mod SettledIntervals
+pub mod Greatest
+pub mod Touch
