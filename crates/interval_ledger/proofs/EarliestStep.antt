@@ -1,5 +1,5 @@
 -- The first of the least starts so far, with one start more.
-use Rattle.std.proofs.Common.{◌≡◌, ℕ, ◌+◌, ◌<◌, ◌≤◌, ◌⊎◌, List, slice_index, Option, Some, None, sym, subst, ap, inl, inr, arith}
+use Rattle.std.proofs.Common.{◌≡◌, ℕ, ◌+◌, ◌<◌, ◌≤◌, List, slice_index, Option, Some, None, sym, subst, ap, inl, inr, arith}
 use Rattle.std.proofs.lemmas.Bool.{cases_lt}
 use Rattle.interval_ledger.specs.Earliest.{IsLeastSoFar}
 
@@ -31,18 +31,24 @@ below_all starts k least c is earlier later n less j inside =
 pub less_now : (starts : List ℕ) (until k least : ℕ) (found : Option ℕ) → slice_index starts k < least →
     IsLeastSoFar starts until k least found →
     IsLeastSoFar starts until (k + 1) (slice_index starts k) (Some k)
-less_now starts until k least None less so =
-    (refl', omega arith, omega (arith, less, so.0),
-    (λ j before. let a = so.1 j before in let b = so.0 in omega (arith, less, a, b)),
-    (λ j after inside. absurd (omega (arith, after, inside))))
+less_now starts until k least None less so = (
+  refl',
+  omega arith,
+  omega (arith, less, so.0),
+  (λ j before. let a = so.1 j before in let b = so.0 in omega (arith, less, a, b)),
+  (λ j after inside. absurd (omega (arith, after, inside))),
+)
   where
     refl' : slice_index starts k ≡ slice_index starts k
     refl' = omega arith
 less_now starts until k least (Some c) less so =
-    let b = so.2 in
-    (refl', omega arith, omega (arith, less, b),
-    below_all starts k least c so.0 so.3 so.4 (slice_index starts k) less,
-    (λ j after inside. absurd (omega (arith, after, inside))))
+    let b = so.2 in (
+      refl',
+      omega arith,
+      omega (arith, less, b),
+      below_all starts k least c so.0 so.3 so.4 (slice_index starts k) less,
+      (λ j after inside. absurd (omega (arith, after, inside))),
+    )
   where
     refl' : slice_index starts k ≡ slice_index starts k
     refl' = omega arith
@@ -52,10 +58,14 @@ pub same_now : (starts : List ℕ) (until k least : ℕ) (found : Option ℕ) �
     IsLeastSoFar starts until k least found → IsLeastSoFar starts until (k + 1) least found
 same_now starts until k least None more so =
     (so.0, last_or (λ j. until ≤ slice_index starts j) k so.1 (let a = so.0 in omega (arith, a, more)))
-same_now starts until k least (Some c) more so =
-    (so.0, (let a = so.1 in omega (arith, a)), so.2, so.3,
-    (λ j after inside. last_or (λ i. c < i → least ≤ slice_index starts i) k (λ i below past. so.4 i past below)
-    (λ past. more) j inside after))
+same_now starts until k least (Some c) more so = (
+  so.0,
+  (let a = so.1 in omega (arith, a)),
+  so.2,
+  so.3,
+  (λ j after inside. last_or (λ i. c < i → least ≤ slice_index starts i) k (λ i below past. so.4 i past below)
+      (λ past. more) j inside after),
+)
 
 -- either way
 pub less_so : (starts : List ℕ) (until k start least after : ℕ) (found next : Option ℕ) →

@@ -1,5 +1,5 @@
 -- The first place that has not been passed tells whether a basic interval begins a segment.
-use Rattle.std.proofs.Common.{◌≡◌, ℕ, zero, suc, ◌<◌, ◌≤◌, Bool, true, false, ◌&&◌, ◌||◌, nat_lt, nat_le, List, [], ◌∷◌, length, take, slice_get, get_or, Option, Some, None, IfSome, IsSomeAnd, All, refl, sym, ◌∙◌, ap, subst, arith}
+use Rattle.std.proofs.Common.{◌≡◌, ℕ, zero, suc, ◌<◌, ◌≤◌, Bool, true, false, ◌&&◌, ◌||◌, nat_lt, nat_le, List, [], ◌∷◌, length, take, slice_get, get_or, IfSome, All, refl, sym, ◌∙◌, ap, arith}
 use Rattle.std.specs.Bool.{⊤}
 use Rattle.std.specs.List.{AllByRecursion, list_any}
 use Rattle.std.specs.List.Sorted.{IsNonDecreasing}
@@ -17,8 +17,9 @@ rise_from : (low : ℕ) (ps : List ℕ) → IsNonDecreasing ps → ((d : ℕ) �
 rise_from low [] rises first = tt
 rise_from low (p ∷ ps) rises first = (
   first p (omega arith),
-  rise_from p ps (λ i j d order inside. rises (suc i) (suc j) d (omega (arith, order)) (omega (arith, inside)))
-  (λ d some. rises zero (suc zero) d (omega arith) (omega (arith, some))),
+  rise_from p ps
+      (λ i j d order inside. rises (suc i) (suc j) d (omega (arith, order)) (omega (arith, inside)))
+      (λ d some. rises zero (suc zero) d (omega arith) (omega (arith, some))),
 )
 
 late : (e w : ℕ) → w < e → nat_le e w ≡ false
@@ -51,8 +52,8 @@ none_above before start low (p ∷ ps) less rises =
     (late p start (omega (arith, less, from)))
     (none_above before start p ps (omega (arith, less, from)) rises.1)
 
-by_first : (before start low k : ℕ) (ps : List ℕ) → RiseFrom low ps → AllByRecursion (λ p. p ≤ before) (take k ps)
-    → IfSome (slice_get ps k) (λ p. before < p)
+by_first : (before start low k : ℕ) (ps : List ℕ) → RiseFrom low ps →
+    AllByRecursion (λ p. p ≤ before) (take k ps) → IfSome (slice_get ps k) (λ p. before < p)
     → list_any (lies_between before start) ps ≡ option_map_or (λ p. nat_le p start) (slice_get ps k) false
 by_first before start low zero [] rises passed later = refl
 by_first before start low (suc k) [] rises passed later = refl
@@ -92,7 +93,8 @@ pub none_passed : (start : ℕ) (ps : List ℕ) → All (λ p. ⊥) ps → All (
 none_passed start ps none = All-weaker (λ p. ⊥) (λ p. p ≤ start) (λ p h. absurd h) ps none
 
 -- the place at an index lies later than another
-pub found_later : (ps : List ℕ) (k before : ℕ) → before < get_or ps k 0 → IfSome (slice_get ps k) (λ p. before < p)
+pub found_later : (ps : List ℕ) (k before : ℕ) → before < get_or ps k 0 →
+    IfSome (slice_get ps k) (λ p. before < p)
 found_later [] zero before h = tt
 found_later [] (suc k) before h = tt
 found_later (p ∷ ps) zero before h = h

@@ -1,6 +1,5 @@
 -- What a watch has seen, after one more window.
-use Rattle.std.proofs.Common.{◌≡◌, ℕ, max, List, [], ◌∷◌, ◌++◌, Option, Some, None, option_to_list, refl, sym, ◌∙◌, ap, subst, arith}
-use Rattle.std.specs.Option.{option_map_or}
+use Rattle.std.proofs.Common.{◌≡◌, ℕ, List, [], ◌∷◌, ◌++◌, Option, Some, None, option_to_list, refl, sym, ◌∙◌, ap, subst, arith}
 use Rattle.event_detect.specs.declared.event.Event.{Event}
 use Rattle.event_detect.specs.declared.kind.Kind.{Kind}
 use Rattle.event_detect.specs.declared.kind.Kind.TheVariants.{Dip, Swell, Interruption}
@@ -56,8 +55,9 @@ pub watch_more : (old mid new : WatchView) (m : ChannelWindow) (answers : List (
     NotesEnds mid new answers → new.poly ≡ mid.poly → SeesMore old new m
 watch_more old mid new m answers ends more channels limits dip swell interruption later same fed seen =
     let after : List ChannelWindow = fed ++ m ∷ [] in
-    let end_at : Kind → Limits → ℕ → ℕ = λ kind l n. greatest_end (ended_events kind (conditions kind l n after))
-    in record {
+    let end_at : Kind → Limits → ℕ → ℕ =
+    λ kind l n. greatest_end (ended_events kind (conditions kind l n after)) in
+    record {
       poly = subst (λ p. HasSeenByPoly p after) (sym same) (more fed seen.poly);
       ends = λ kind.
           later kind

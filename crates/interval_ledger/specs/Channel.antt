@@ -1,5 +1,5 @@
--- What contracts see of a channel's queues: what its sampler and its detector have posted, and how many of its
--- windows are merged.
+-- What contracts see of a channel's queues: what its sampler and its detector have posted, and how many of
+-- its windows are merged.
 use Rattle.std.specs.Prelude.{ℕ, ◌+◌, ◌^◌, ◌-◌, List, map, slice_get}
 use Rattle.std.specs.Option.{option_map_or}
 use Rattle.event_detect.specs.declared.window.Window.{Window}

@@ -1,4 +1,4 @@
--- What contracts say of the next basic interval and the next reading, by what the lanes have posted (profile).
+-- What contracts say of the next basic interval and the next reading, by what is posted (profile).
 use Rattle.std.specs.Prelude.{◌≡◌, ◌⊎◌, ℕ, ◌<◌, ◌≤◌, List, length, Option, None, Some, IsSome, slice_get, option_and_then}
 use Rattle.freq10s.specs.declared.reading.Reading.{Reading}
 use Rattle.interval_ledger.specs.declared.channel.SpanValue.{SpanValue}

@@ -1,5 +1,5 @@
 -- What contracts see of segments: the places of the ticks, and where the last basic interval began.
-use Rattle.std.specs.Prelude.{ℕ, Bool, true, ◌&&◌, ◌<◌, ◌≤◌, nat_lt, nat_le, List, length, take, Option, None, Some, All, IsSomeAnd, slice_get, IfSome}
+use Rattle.std.specs.Prelude.{ℕ, Bool, true, ◌&&◌, ◌≤◌, nat_lt, nat_le, List, length, take, Option, None, Some, All, IsSomeAnd}
 use Rattle.std.specs.List.{list_any}
 use Rattle.std.specs.List.Sorted.{IsNonDecreasing}
 

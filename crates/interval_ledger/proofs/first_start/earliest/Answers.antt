@@ -1,4 +1,4 @@
-use Rattle.std.proofs.Common.{◌≡◌, ◌<◌, slice_index, map, length, arith}
+use Rattle.std.proofs.Common.{◌≡◌, ◌<◌, slice_index, length, arith}
 use Rattle.std.proofs.lemmas.List.{get_or-map}
 use Rattle.interval_ledger.specs.Channel.{first_start, first_starts}
 use Rattle.interval_ledger.proofs.EarliestStep.{less_so, same_so}
@@ -18,7 +18,9 @@ loop-k-preserved c =
     let is : slice_index starts k ≡ start = cc in
     elim c.if-start-least.branch [
       | then-start-least w ↦ less_so starts c.args.until k start c.loop-k.least c.if-start-least.least
-          c.loop-k.found c.if-start-least.found is w.if-start-least.true w.found-is w.least-is c.loop-k.invariant
+          c.loop-k.found c.if-start-least.found is
+          w.if-start-least.true w.found-is w.least-is c.loop-k.invariant
       | else-start-least w ↦ same_so starts c.args.until k start c.loop-k.least c.if-start-least.least
-          c.loop-k.found c.if-start-least.found is w.if-start-least.false w.found-is w.least-is c.loop-k.invariant
+          c.loop-k.found c.if-start-least.found is
+          w.if-start-least.false w.found-is w.least-is c.loop-k.invariant
     ]

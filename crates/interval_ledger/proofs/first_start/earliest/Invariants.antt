@@ -1,4 +1,3 @@
-use Rattle.std.proofs.Common.{◌≡◌, length}
 use Rattle.interval_ledger.specs.Channel.{first_starts}
 use Rattle.interval_ledger.specs.Earliest.{IsLeastSoFar}
 use Rattle.interval_ledger.proofs.first_start.earliest.Given as goal

@@ -19,5 +19,5 @@ loop-item-preserved c =
     let a = c.loop-item.invariant in (
       omega (arith, a.0),
       pass_more c.args.w c.loop-item.item-index c.end.result c.args.items.now _ c.loop-item-test.true a.1
-      c.end.ensures c.if-end-w.false,
+          c.end.ensures c.if-end-w.false,
     )

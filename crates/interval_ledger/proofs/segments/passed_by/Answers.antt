@@ -1,4 +1,4 @@
-use Rattle.std.proofs.Common.{◌≤◌, ◌+◌, length, take, All, arith}
+use Rattle.std.proofs.Common.{◌≤◌, arith}
 use Rattle.std.proofs.lemmas.List.Elements.{All-more}
 use Rattle.interval_ledger.proofs.SegmentLaws.{found_later, past_later}
 use Rattle.interval_ledger.proofs.segments.passed_by.Goals as goal

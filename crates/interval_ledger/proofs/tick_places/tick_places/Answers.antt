@@ -1,9 +1,9 @@
-use Rattle.std.proofs.Common.{◌≡◌, ◌∙◌, ◌++◌, map, All, List, ℤ, FitsSigned, w64, rules, sym, ap, subst, append-nil}
+use Rattle.std.proofs.Common.{◌∙◌, ◌++◌, map, All, List, ℤ, FitsSigned, w64, rules, sym, ap, subst, append-nil}
 use Rattle.std.proofs.lemmas.Int.{to_z-of_z}
 use Rattle.std.proofs.lemmas.List.Elements.{All-tail}
 use Rattle.std.specs.List.Sorted.{IsNonDecreasing}
 use Rattle.pq_sequence.specs.MeasuredRecording.{tick_places}
-use Rattle.pq_time.specs.Tick.{IsTick, tick_place, ticks}
+use Rattle.pq_time.specs.Tick.{IsTick, tick_place}
 use Rattle.interval_ledger.proofs.PlaceRises.{one_place, places_never_fall}
 use Rattle.interval_ledger.proofs.tick_places.tick_places.Goals as goal
 
