@@ -1,5 +1,5 @@
 -- The merged windows that begin before a place stand first, and are those of the channels' windows that do.
-use Rattle.std.proofs.Common.{◌≡◌, ℕ, ◌+◌, ◌<◌, ◌≤◌, Bool, true, false, not, nat_lt, List, [], ◌∷◌, ◌++◌, map, filter, flat_map, refl, sym, ◌∙◌, ap, inl, inr, arith, Less}
+use Rattle.std.proofs.Common.{◌≡◌, ℕ, ◌+◌, ◌<◌, ◌≤◌, true, false, not, nat_lt, List, [], ◌∷◌, ◌++◌, map, filter, flat_map, refl, sym, ◌∙◌, ap, inl, inr, arith, Less}
 use Rattle.std.specs.List.{AllByRecursion, enumerate_from}
 use Rattle.std.specs.Ordering.{is_lt, nat_cmp, ordering_then}
 use Rattle.std.specs.Cmp.{IsStrictWeakOrder, nat_cmp_is}
@@ -10,6 +10,7 @@ use Rattle.std.proofs.lemmas.List.Sorted.{ranks_by}
 use Rattle.event_detect.specs.declared.window.Window.{Window}
 use Rattle.polyphase.specs.PolyphaseEvent.{ChannelWindow, merged_cmp, of_channel, merged_windows}
 use Rattle.polyphase.proofs.MergedLaws.{merged_cmp_total}
+use Rattle.settled_laws.specs.SettledEvents.{begins_before, is_early}
 use Rattle.settled_laws.proofs.SettledLaws.{IsFrom}
 use Rattle.pq_words.specs.Sorted.{in_order}
 use Rattle.settled_laws.proofs.ListLaws.{all_append, all_mapped, all_both, all_kept, all_fail, filter_mapped, filter_ordered, filter_splits}
@@ -19,13 +20,6 @@ use Rattle.pq_words.proofs.SortedLaws.{in_order_rises}
 
 merged_weak : IsStrictWeakOrder (λ x y. is_lt (merged_cmp x y))
 merged_weak = ranks_by merged_cmp_total (λ m. m)
-
--- the window begins before the place
-abbrev pub begins_before : ℕ → Window → Bool
-begins_before w v = nat_lt v.start w
-
-abbrev pub is_early : ℕ → ChannelWindow → Bool
-is_early w m = begins_before w m.window
 
 -- ---- the early ones are those of the channels
 

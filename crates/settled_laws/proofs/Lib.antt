@@ -16,10 +16,11 @@ pub mod FrontLaws
 pub mod CutLaws
 mod IntervalFacts
 pub mod ClimbLaws
-pub mod SpacedLaws
 pub mod ContinueLaws
 pub mod SettledEvents
 pub mod TouchLaws
 pub mod SettledLaws
 pub mod EarlyLaws
 pub mod TouchedLaws
+pub mod WindowBounds
+pub mod EventLaws

@@ -112,8 +112,7 @@ any_append t (x ∷ xs) ys = at (t x) (any_append t xs ys)
 
 -- whether some kind of thing passes
 abbrev pub any_kind : (Kind → Bool) → List Kind → Bool
-any_kind t [] = false
-any_kind t (k ∷ ks) = let rest = any_kind t ks in t k || rest
+any_kind t ks = list_any t ks
 
 pub touched_joined : (f : Kind → List Event) (start end : ℕ) (ks : List Kind) →
     is_touched (flat_map f ks) start end ≡ any_kind (λ k. is_touched (f k) start end) ks
