@@ -16,6 +16,7 @@ pub mod FrontLaws
 pub mod CutLaws
 mod IntervalFacts
 pub mod ClimbLaws
+pub mod SpacedLaws
 pub mod ContinueLaws
 pub mod SettledEvents
 pub mod TouchLaws
