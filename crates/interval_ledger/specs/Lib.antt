@@ -1,2 +1,4 @@
+pub mod Added
 pub mod Earliest
+pub mod Left
 pub mod Merged
