@@ -24,8 +24,8 @@ merged_weak = ranks_by merged_cmp_total (λ m. m)
 -- ---- the early ones are those of the channels
 
 joined_early : (w k : ℕ) (xss : List (List Window))
-    → filter (is_early w) (flat_map (λ p. of_channel p.0 p.1) (enumerate_from k xss)) ≡ flat_map
-    (λ p. of_channel p.0 p.1) (enumerate_from k (map (filter (begins_before w)) xss))
+    → filter (is_early w) (flat_map (λ p. of_channel p.0 p.1) (enumerate_from k xss))
+    ≡ flat_map (λ p. of_channel p.0 p.1) (enumerate_from k (map (filter (begins_before w)) xss))
 joined_early w k [] = refl
 joined_early w k (xs ∷ xss) =
     let made : Window → ChannelWindow = λ v. record { channel = k; window = v } in
@@ -61,8 +61,9 @@ starts_above w x y low fails =
       | inr more ↦ lt_fails x.window.start y.window.start w more fails
     ]
 
-pub merged_splits : (w : ℕ) (xss : List (List Window)) → merged_windows xss ≡ filter (is_early w)
-    (merged_windows xss) ++ filter (λ m. not (is_early w m)) (merged_windows xss)
+pub merged_splits : (w : ℕ) (xss : List (List Window)) →
+    merged_windows xss ≡ filter (is_early w) (merged_windows xss) ++ filter (λ m. not (is_early w m))
+    (merged_windows xss)
 unfolding merged_windows
 merged_splits w xss =
     let all = flat_map (λ p. of_channel p.0 p.1) (enumerate_from 0 xss) in
@@ -81,8 +82,9 @@ joined_all : (P : Window → Type 0) (k : ℕ) (xss : List (List Window)) → Al
 joined_all P k [] h = tt
 joined_all P k (xs ∷ xss) h =
     let made : Window → ChannelWindow = λ v. record { channel = k; window = v } in
-    all_append (λ m. P m.window) (map made xs) (flat_map (λ p. of_channel p.0 p.1) (enumerate_from
-    (k + 1) xss)) (all_mapped (λ m. P m.window) made xs h.0) (joined_all P (k + 1) xss h.1)
+    all_append (λ m. P m.window) (map made xs) (flat_map (λ p. of_channel p.0 p.1)
+    (enumerate_from (k + 1) xss)) (all_mapped (λ m. P m.window) made xs h.0)
+    (joined_all P (k + 1) xss h.1)
 
 -- what holds of all windows of the channels holds of the merged ones
 pub merged_all : (P : Window → Type 0) (xss : List (List Window)) → AllByRecursion (AllByRecursion P) xss →

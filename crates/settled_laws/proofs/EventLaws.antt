@@ -56,7 +56,8 @@ module _ (r : Recorded) (is : IsRecording r) where
 
     -- where it is the same over windows so far and any later ones, it is so over all
     over_early : {X : Type 0} (f : List ChannelWindow → X) (told : X) (w : ℕ) →
-        ((more : List ChannelWindow) → AllByRecursion (IsFrom w) more → f (early_windows r w ++ more) ≡ told) →
+        ((more : List ChannelWindow) → AllByRecursion (IsFrom w) more → f (early_windows r w ++ more)
+        ≡ told) →
         Over X f w
     over_early f told w same =
         ap f (merged_splits w (windows_by_channel r))

@@ -25,3 +25,4 @@ pub mod EarlyLaws
 pub mod TouchedLaws
 pub mod WindowBounds
 pub mod EventLaws
+mod EventFacts

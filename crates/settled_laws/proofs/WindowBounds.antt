@@ -17,7 +17,8 @@ IsWithin n w = (w.start < w.end) × (w.end < n)
 
 pub windows_within : (s : List ℤ) (rule : Rule) → IsRule rule →
     AllByRecursion (IsWithin (length s)) (windows s rule)
-windows_within s rule given = recursion_from_All (IsWithin (length s)) (windows s rule) (windows_lie s rule given)
+windows_within s rule given = recursion_from_All (IsWithin (length s)) (windows s rule)
+    (windows_lie s rule given)
 
 pub channels_within : (r : Recorded) → IsRecording r →
     AllByRecursion (AllByRecursion (IsWithin (sample_count r))) (windows_by_channel r)
