@@ -3,3 +3,5 @@ mod OutboxLaws
 mod PlaceRises
 mod SegmentLaws
 mod WatchLaws
+pub mod ItemLaws
+pub mod WindowLaws

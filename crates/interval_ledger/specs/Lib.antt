@@ -1,5 +1,7 @@
+pub mod Added
 pub mod Channel
 pub mod Earliest
+pub mod Left
 pub mod Merged
 pub mod NextDue
 pub mod Outbox

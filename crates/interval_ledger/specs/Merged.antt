@@ -6,12 +6,13 @@ use Rattle.event_detect.specs.declared.event.Event.{Event}
 use Rattle.event_detect.specs.declared.limits.Limits.{Limits}
 use Rattle.event_detect.specs.VoltageEvent.{ended_events}
 use Rattle.freq10s.specs.declared.reading.Reading.{Reading}
+use Rattle.lanes.specs.Lane.{recorded_readings}
 use Rattle.polyphase.specs.PolyphaseEvent.{ChannelWindow, conditions, kinds}
 use Rattle.pq_base.specs.Recorded.{Recorded}
 use Rattle.pq_items.specs.declared.item.Item.{Item}
 use Rattle.pq_items.specs.ItemOrder.{item_cmp}
 use Rattle.pq_items.specs.ItemTable.{end_of}
-use Rattle.pq_sequence.specs.MeasuredRecording.{basics_of, channel_count, readings_of, recorded_events, recorded_windows, reference_cycles, shorts_of, tens_of, two_hours_of}
+use Rattle.pq_sequence.specs.MeasuredRecording.{basics_of, channel_count, recorded_events, recorded_windows, reference_cycles, shorts_of, tens_of, two_hours_of}
 use Rattle.pq_sequence.specs.SequentialResult.{basic_items, cut, event_items, for_each_channel, reading_items, sequential, short_item, ten_item, two_hour_item}
 use Rattle.pq_words.specs.Sorted.{in_order}
 
@@ -24,10 +25,6 @@ pub record Merged : Type 0 where
 -- all basic intervals of the recording, with their flags
 abbrev pub all_basics : Recorded → Limits → List Basic
 all_basics r limits = basics_of r (recorded_events r limits) (reference_cycles r)
-
--- all readings of the recording
-abbrev pub all_readings : Recorded → List Reading
-all_readings r = readings_of r (reference_cycles r)
 
 -- the events that some of the merged windows have ended
 abbrev pub known_events : Recorded → Limits → List ChannelWindow → List Event
@@ -49,20 +46,20 @@ known_items r limits fed basics early =
 abbrev pub known : Recorded → Limits → Merged → List Item
 known r limits m =
     known_items r limits (take m.windows (recorded_windows r)) (take m.basics (all_basics r limits))
-    (take m.readings (all_readings r))
+    (take m.readings (recorded_readings r))
 
 -- what is not merged begins at place w or after it, or ends after it
 pub record IsSettled (r : Recorded) (limits : Limits) (m : Merged) (w : ℕ) : Type 0 where
   pub windows : AllByRecursion (λ x. w ≤ x.window.start) (drop m.windows (recorded_windows r))
   pub basics : AllByRecursion (λ b. w < b.part.end) (drop m.basics (all_basics r limits))
-  pub readings : AllByRecursion (λ x. w < x.end) (drop m.readings (all_readings r))
+  pub readings : AllByRecursion (λ x. w < x.end) (drop m.readings (recorded_readings r))
 
 -- the windows that are merged begin before place w, and the basic intervals and readings that are not end at
 -- it or after it
 pub record IsAbreast (r : Recorded) (limits : Limits) (m : Merged) (w : ℕ) : Type 0 where
   pub windows : AllByRecursion (λ x. x.window.start < w) (take m.windows (recorded_windows r))
   pub basics : AllByRecursion (λ b. w ≤ b.part.end) (drop m.basics (all_basics r limits))
-  pub readings : AllByRecursion (λ x. w ≤ x.end) (drop m.readings (all_readings r))
+  pub readings : AllByRecursion (λ x. w ≤ x.end) (drop m.readings (recorded_readings r))
 
 -- the known items that end after the mark
 abbrev pub pending_items : Recorded → Limits → Merged → ℕ → List Item

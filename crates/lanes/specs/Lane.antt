@@ -16,8 +16,8 @@ use Rattle.ten_twelve.specs.declared.span.Span.{Span}
 abbrev pub lane_count : Recorded → ℕ
 lane_count r = 2 * channel_count r + 1
 
--- the key of an item: the end of a value or a reading, and one more than the start of a window, which is known
--- to begin once the samples up to its start are there
+-- the key of an item: the end of a value or a reading, and one more than the start of a window, which so is
+-- settled once it begins
 abbrev pub lane_key : LaneItem → ℕ
 lane_key (item.Value start end value) = end
 lane_key (item.Window window) = window.start + 1

@@ -2,5 +2,7 @@
 #![tactic(auto)]
 
 pub use lane_item::LaneItem;
+pub use laws::{lanes_rise, reaches_tell};
 
 mod lane_item;
+mod laws;

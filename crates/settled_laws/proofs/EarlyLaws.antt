@@ -1,5 +1,5 @@
 -- The merged windows that begin before a place stand first, and are those of the channels' windows that do.
-use Rattle.std.proofs.Common.{◌≡◌, ℕ, ◌+◌, ◌<◌, ◌≤◌, Bool, true, false, not, nat_lt, List, [], ◌∷◌, ◌++◌, map, filter, flat_map, refl, sym, ◌∙◌, ap, inl, inr, arith, Less}
+use Rattle.std.proofs.Common.{◌≡◌, ℕ, ◌+◌, ◌<◌, ◌≤◌, true, false, not, nat_lt, List, [], ◌∷◌, ◌++◌, map, filter, flat_map, refl, sym, ◌∙◌, ap, inl, inr, arith, Less}
 use Rattle.std.specs.List.{AllByRecursion, enumerate_from}
 use Rattle.std.specs.Ordering.{is_lt, nat_cmp, ordering_then}
 use Rattle.std.specs.Cmp.{IsStrictWeakOrder, nat_cmp_is}
@@ -10,6 +10,7 @@ use Rattle.std.proofs.lemmas.List.Sorted.{ranks_by}
 use Rattle.event_detect.specs.declared.window.Window.{Window}
 use Rattle.polyphase.specs.PolyphaseEvent.{ChannelWindow, merged_cmp, of_channel, merged_windows}
 use Rattle.polyphase.proofs.MergedLaws.{merged_cmp_total}
+use Rattle.settled_laws.specs.SettledEvents.{begins_before, is_early}
 use Rattle.settled_laws.proofs.SettledLaws.{IsFrom}
 use Rattle.pq_words.specs.Sorted.{in_order}
 use Rattle.settled_laws.proofs.ListLaws.{all_append, all_mapped, all_both, all_kept, all_fail, filter_mapped, filter_ordered, filter_splits}
@@ -20,18 +21,11 @@ use Rattle.pq_words.proofs.SortedLaws.{in_order_rises}
 merged_weak : IsStrictWeakOrder (λ x y. is_lt (merged_cmp x y))
 merged_weak = ranks_by merged_cmp_total (λ m. m)
 
--- the window begins before the place
-abbrev pub begins_before : ℕ → Window → Bool
-begins_before w v = nat_lt v.start w
-
-abbrev pub is_early : ℕ → ChannelWindow → Bool
-is_early w m = begins_before w m.window
-
 -- ---- the early ones are those of the channels
 
 joined_early : (w k : ℕ) (xss : List (List Window))
-    → filter (is_early w) (flat_map (λ p. of_channel p.0 p.1) (enumerate_from k xss)) ≡ flat_map
-    (λ p. of_channel p.0 p.1) (enumerate_from k (map (filter (begins_before w)) xss))
+    → filter (is_early w) (flat_map (λ p. of_channel p.0 p.1) (enumerate_from k xss))
+    ≡ flat_map (λ p. of_channel p.0 p.1) (enumerate_from k (map (filter (begins_before w)) xss))
 joined_early w k [] = refl
 joined_early w k (xs ∷ xss) =
     let made : Window → ChannelWindow = λ v. record { channel = k; window = v } in
@@ -67,8 +61,9 @@ starts_above w x y low fails =
       | inr more ↦ lt_fails x.window.start y.window.start w more fails
     ]
 
-pub merged_splits : (w : ℕ) (xss : List (List Window)) → merged_windows xss ≡ filter (is_early w)
-    (merged_windows xss) ++ filter (λ m. not (is_early w m)) (merged_windows xss)
+pub merged_splits : (w : ℕ) (xss : List (List Window)) →
+    merged_windows xss ≡ filter (is_early w) (merged_windows xss) ++ filter (λ m. not (is_early w m))
+    (merged_windows xss)
 unfolding merged_windows
 merged_splits w xss =
     let all = flat_map (λ p. of_channel p.0 p.1) (enumerate_from 0 xss) in
@@ -87,8 +82,9 @@ joined_all : (P : Window → Type 0) (k : ℕ) (xss : List (List Window)) → Al
 joined_all P k [] h = tt
 joined_all P k (xs ∷ xss) h =
     let made : Window → ChannelWindow = λ v. record { channel = k; window = v } in
-    all_append (λ m. P m.window) (map made xs) (flat_map (λ p. of_channel p.0 p.1) (enumerate_from
-    (k + 1) xss)) (all_mapped (λ m. P m.window) made xs h.0) (joined_all P (k + 1) xss h.1)
+    all_append (λ m. P m.window) (map made xs) (flat_map (λ p. of_channel p.0 p.1)
+    (enumerate_from (k + 1) xss)) (all_mapped (λ m. P m.window) made xs h.0)
+    (joined_all P (k + 1) xss h.1)
 
 -- what holds of all windows of the channels holds of the merged ones
 pub merged_all : (P : Window → Type 0) (xss : List (List Window)) → AllByRecursion (AllByRecursion P) xss →

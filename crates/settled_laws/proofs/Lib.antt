@@ -23,3 +23,6 @@ pub mod TouchLaws
 pub mod SettledLaws
 pub mod EarlyLaws
 pub mod TouchedLaws
+pub mod WindowBounds
+pub mod EventLaws
+mod EventFacts

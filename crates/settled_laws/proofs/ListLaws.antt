@@ -33,8 +33,8 @@ pub all_append : {X : Type 0} (P : X → Type 0) (xs ys : List X) → AllByRecur
 all_append P [] ys h g = g
 all_append P (x ∷ xs) ys h g = (h.0, all_append P xs ys h.1 g)
 
-pub all_mapped : {X Y : Type 0} (P : Y → Type 0) (f : X → Y) (xs : List X) → AllByRecursion
-    (λ x. P (f x)) xs → AllByRecursion P (map f xs)
+pub all_mapped : {X Y : Type 0} (P : Y → Type 0) (f : X → Y) (xs : List X) →
+    AllByRecursion (λ x. P (f x)) xs → AllByRecursion P (map f xs)
 all_mapped P f [] h = tt
 all_mapped P f (x ∷ xs) h = (h.0, all_mapped P f xs h.1)
 
@@ -57,8 +57,8 @@ pub all_kept : {X : Type 0} (P : X → Type 0) (p : X → Bool) (xs : List X) �
 all_kept P p [] h = tt
 all_kept P p (x ∷ xs) h = at (p x) (all_kept P p xs h.1)
   where
-    at : (b : Bool) → AllByRecursion P (filter p xs) → AllByRecursion P (cond b (x ∷ filter p xs)
-        (filter p xs))
+    at : (b : Bool) → AllByRecursion P (filter p xs) →
+        AllByRecursion P (cond b (x ∷ filter p xs) (filter p xs))
     at true rest = (h.0, rest)
     at false rest = rest
 
@@ -66,8 +66,8 @@ pub all_pass : {X : Type 0} (p : X → Bool) (xs : List X) → AllByRecursion (�
 all_pass p [] = tt
 all_pass p (x ∷ xs) = at (p x) refl (all_pass p xs)
   where
-    at : (b : Bool) → p x ≡ b → AllByRecursion (λ x. p x ≡ true) (filter p xs) → AllByRecursion
-        (λ x. p x ≡ true) (cond b (x ∷ filter p xs) (filter p xs))
+    at : (b : Bool) → p x ≡ b → AllByRecursion (λ x. p x ≡ true) (filter p xs) →
+        AllByRecursion (λ x. p x ≡ true) (cond b (x ∷ filter p xs) (filter p xs))
     at true is rest = (is, rest)
     at false is rest = rest
 
@@ -81,45 +81,45 @@ filter_none p (x ∷ xs) h = ap (λ b. cond b (x ∷ filter p xs) (filter p xs))
 pub filter_whole : {X : Type 0} (p : X → Bool) (xs : List X) → AllByRecursion (λ x. p x ≡ true) xs →
     filter p xs ≡ xs
 filter_whole p [] h = refl
-filter_whole p (x ∷ xs) h = ap (λ b. cond b (x ∷ filter p xs) (filter p xs)) h.0 ∙ ap (λ ys. x ∷ ys)
-    (filter_whole p xs h.1)
+filter_whole p (x ∷ xs) h = ap (λ b. cond b (x ∷ filter p xs) (filter p xs)) h.0
+    ∙ ap (λ ys. x ∷ ys) (filter_whole p xs h.1)
 
-pub filter_mapped : {X Y : Type 0} (p : Y → Bool) (f : X → Y) (xs : List X) → filter p (map f xs) ≡ map f
-    (filter (λ x. p (f x)) xs)
+pub filter_mapped : {X Y : Type 0} (p : Y → Bool) (f : X → Y) (xs : List X) →
+    filter p (map f xs) ≡ map f (filter (λ x. p (f x)) xs)
 filter_mapped p f [] = refl
 filter_mapped p f (x ∷ xs) = at (p (f x)) (filter_mapped p f xs)
   where
     at : (b : Bool) → filter p (map f xs) ≡ map f (filter (λ x. p (f x)) xs)
-        → cond b (f x ∷ filter p (map f xs)) (filter p (map f xs)) ≡ map f
-        (cond b (x ∷ filter (λ x. p (f x)) xs) (filter (λ x. p (f x)) xs))
+        → cond b (f x ∷ filter p (map f xs)) (filter p (map f xs))
+        ≡ map f (cond b (x ∷ filter (λ x. p (f x)) xs) (filter (λ x. p (f x)) xs))
     at true h = ap (λ ys. f x ∷ ys) h
     at false h = h
 
 pub filter_joined : {X Y : Type 0} (p : Y → Bool) (f : X → List Y) (xs : List X) → filter p (flat_map f xs)
     ≡ flat_map (λ x. filter p (f x)) xs
 filter_joined p f [] = refl
-filter_joined p f (x ∷ xs) = filter-append p (f x) (flat_map f xs) ∙ ap (λ ys. filter p (f x) ++ ys)
-    (filter_joined p f xs)
+filter_joined p f (x ∷ xs) = filter-append p (f x) (flat_map f xs)
+    ∙ ap (λ ys. filter p (f x) ++ ys) (filter_joined p f xs)
 
 -- where what fails is followed by what fails, a list is what passes and then what fails
-pub filter_splits : {X : Type 0} (p : X → Bool) (xs : List X) → FailsOn p xs → xs ≡ filter p xs ++ filter
-    (λ x. not (p x)) xs
+pub filter_splits : {X : Type 0} (p : X → Bool) (xs : List X) → FailsOn p xs →
+    xs ≡ filter p xs ++ filter (λ x. not (p x)) xs
 filter_splits p [] h = refl
 filter_splits {X} p (x ∷ xs) h = at (p x) h.0 (filter_splits p xs h.1)
   where
-    at : (b : Bool) → (b ≡ false → AllByRecursion (λ y. p y ≡ false) xs) → xs ≡ filter p xs ++ filter
-        (λ x. not (p x)) xs
+    at : (b : Bool) → (b ≡ false → AllByRecursion (λ y. p y ≡ false) xs) →
+        xs ≡ filter p xs ++ filter (λ x. not (p x)) xs
         → x ∷ xs ≡ cond b (x ∷ filter p xs) (filter p xs) ++ cond (not b) (x ∷ filter (λ x. not (p x)) xs)
         (filter (λ x. not (p x)) xs)
     at true later rest = ap (λ ys. x ∷ ys) rest
     at false later rest =
         let none : filter p xs ≡ [] = filter_none p xs (later refl) in
-        let whole : xs ≡ filter (λ x. not (p x)) xs = rest ∙ ap (λ ys. ys ++ filter (λ x. not (p x)) xs) none
-        in
+        let whole : xs ≡ filter (λ x. not (p x)) xs = rest
+        ∙ ap (λ ys. ys ++ filter (λ x. not (p x)) xs) none in
         ap (λ ys. x ∷ ys) whole ∙ sym (ap (λ ys. ys ++ x ∷ filter (λ x. not (p x)) xs) none)
 
-pub all_fail : {X : Type 0} (p : X → Bool) (xs : List X) → AllByRecursion (λ x. p x ≡ false)
-    (filter (λ x. not (p x)) xs)
+pub all_fail : {X : Type 0} (p : X → Bool) (xs : List X) →
+    AllByRecursion (λ x. p x ≡ false) (filter (λ x. not (p x)) xs)
 all_fail p [] = tt
 all_fail {X} p (x ∷ xs) = at (p x) refl (all_fail p xs)
   where
@@ -138,22 +138,22 @@ module _ {X : Type 0} (cmp : X → X → Ordering) (p : X → Bool) where
   put_dropped x (y ∷ ys) fails = at (is_lt (cmp y x)) (put_dropped x ys fails)
     where
       at : (b : Bool) → filter p (put_in_order cmp x ys) ≡ filter p ys
-          → filter p (cond b (y ∷ put_in_order cmp x ys) (x ∷ y ∷ ys)) ≡ cond (p y) (y ∷ filter p ys)
-          (filter p ys)
+          → filter p (cond b (y ∷ put_in_order cmp x ys) (x ∷ y ∷ ys))
+          ≡ cond (p y) (y ∷ filter p ys) (filter p ys)
       at true rest = ap (λ zs. cond (p y) (y ∷ zs) zs) rest
       at false rest = ap (λ b. cond b (x ∷ filter p (y ∷ ys)) (filter p (y ∷ ys))) fails
 
   put_kept : IsStrictWeakOrder (λ x y. is_lt (cmp x y)) → (x : X) (ys : List X) →
-      Rising (λ x y. is_lt (cmp x y)) ys → p x ≡ true → filter p (put_in_order cmp x ys) ≡ put_in_order cmp x
-      (filter p ys)
+      Rising (λ x y. is_lt (cmp x y)) ys → p x ≡ true → filter p (put_in_order cmp x ys)
+      ≡ put_in_order cmp x (filter p ys)
   unfolding put_in_order
   put_kept o x [] rises is = ap (λ b. cond b (x ∷ []) []) is
   put_kept o x (y ∷ ys) rises is = at (is_lt (cmp y x)) refl (p y) refl (put_kept o x ys rises.1 is)
     where
       at : (b : Bool) → is_lt (cmp y x) ≡ b → (c : Bool) → p y ≡ c → filter p (put_in_order cmp x ys)
           ≡ put_in_order cmp x (filter p ys)
-          → filter p (cond b (y ∷ put_in_order cmp x ys) (x ∷ y ∷ ys)) ≡ put_in_order cmp x
-          (cond c (y ∷ filter p ys) (filter p ys))
+          → filter p (cond b (y ∷ put_in_order cmp x ys) (x ∷ y ∷ ys))
+          ≡ put_in_order cmp x (cond c (y ∷ filter p ys) (filter p ys))
       at true below true kept rest =
           ap (λ c. cond c (y ∷ filter p (put_in_order cmp x ys)) (filter p (put_in_order cmp x ys))) kept
           ∙ ap (λ zs. y ∷ zs) rest
@@ -172,8 +172,9 @@ module _ {X : Type 0} (cmp : X → X → Ordering) (p : X → Bool) where
           ∙ sym (put_first cmp x (filter p (y ∷ ys)) later)
           ∙ ap (put_in_order cmp x) same
         where
-          all_above : (x y : X) (zs : List X) → is_lt (cmp y x) ≡ false → AllByRecursion (λ z. is_lt (cmp z y)
-              ≡ false) zs → AllByRecursion (λ z. is_lt (cmp z x) ≡ false) zs
+          all_above : (x y : X) (zs : List X) → is_lt (cmp y x) ≡ false →
+              AllByRecursion (λ z. is_lt (cmp z y) ≡ false) zs →
+              AllByRecursion (λ z. is_lt (cmp z x) ≡ false) zs
           all_above x y [] above h = tt
           all_above x y (z ∷ zs) above h = (o.chain z y x h.0 above, all_above x y zs above h.1)
 
@@ -184,8 +185,8 @@ module _ {X : Type 0} (cmp : X → X → Ordering) (p : X → Bool) where
   filter_ordered o (x ∷ xs) = at (p x) refl (filter_ordered o xs)
     where
       at : (b : Bool) → p x ≡ b → filter p (in_order cmp xs) ≡ in_order cmp (filter p xs)
-          → filter p (put_in_order cmp x (in_order cmp xs)) ≡ in_order cmp (cond b (x ∷ filter p xs)
-          (filter p xs))
+          → filter p (put_in_order cmp x (in_order cmp xs))
+          ≡ in_order cmp (cond b (x ∷ filter p xs) (filter p xs))
       at true is rest = put_kept o x (in_order cmp xs) (in_order_rises cmp o xs) is
           ∙ ap (put_in_order cmp x) rest
       at false fails rest = put_dropped x (in_order cmp xs) fails ∙ rest

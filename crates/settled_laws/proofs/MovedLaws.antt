@@ -8,21 +8,21 @@ use Rattle.std.proofs.lemmas.List.Sums.{sum_by-append, sum_by-cons}
 use Rattle.pq_words.specs.Sorted.{in_order}
 use Rattle.polyphase.proofs.MovedLaws.{IsMoved, moved_append, moved_ordered, moved_order}
 
-weight_kept : {X : Type 0} (p : X → Bool) (f : X → ℕ) (xs : List X) → sum_by f (filter p xs) ≡ sum_by
-    (λ x. cond (p x) (f x) 0) xs
+weight_kept : {X : Type 0} (p : X → Bool) (f : X → ℕ) (xs : List X) → sum_by f (filter p xs)
+    ≡ sum_by (λ x. cond (p x) (f x) 0) xs
 weight_kept p f [] = refl
-weight_kept {X} p f (x ∷ xs) = at (p x) (weight_kept p f xs) ∙ sym (sum_by-cons (λ x. cond (p x) (f x) 0) x
-    xs)
+weight_kept {X} p f (x ∷ xs) = at (p x) (weight_kept p f xs)
+    ∙ sym (sum_by-cons (λ x. cond (p x) (f x) 0) x xs)
   where
     at : (b : Bool) → sum_by f (filter p xs) ≡ sum_by (λ x. cond (p x) (f x) 0) xs
-        → sum_by f (cond b (x ∷ filter p xs) (filter p xs)) ≡ cond b (f x) 0 + sum_by (λ x. cond (p x)
-        (f x) 0) xs
+        → sum_by f (cond b (x ∷ filter p xs) (filter p xs))
+        ≡ cond b (f x) 0 + sum_by (λ x. cond (p x) (f x) 0) xs
     at true h = sum_by-cons f x (filter p xs) ∙ ap (λ n. f x + n) h
     at false h = let e : 0 + sum_by (λ x. cond (p x) (f x) 0) xs ≡ sum_by (λ x. cond (p x) (f x) 0) xs =
         omega arith in h ∙ sym e
 
-pub moved_filter : {X : Type 0} (p : X → Bool) (xs ys : List X) → IsMoved xs ys → IsMoved (filter p xs)
-    (filter p ys)
+pub moved_filter : {X : Type 0} (p : X → Bool) (xs ys : List X) → IsMoved xs ys →
+    IsMoved (filter p xs) (filter p ys)
 moved_filter p xs ys h f = weight_kept p f xs ∙ h (λ x. cond (p x) (f x) 0) ∙ sym (weight_kept p f ys)
 
 pub moved_swap : {X : Type 0} (xs ys : List X) → IsMoved (xs ++ ys) (ys ++ xs)

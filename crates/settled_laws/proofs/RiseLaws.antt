@@ -8,7 +8,7 @@ use Rattle.pq_time.proofs.PlaceLaws.{place_rises}
 pub second_later : (second : ℤ) (step : ℕ) → moment_of second ≤ℤ moment_of (second +ℤ pos step)
 second_later second step = omega (arith, ints)
 
-pub tick_later : (clock : Clock) (n : ℕ) (second : ℤ) (step : ℕ) → tick_place clock n second ≤ tick_place
-    clock n (second +ℤ pos step)
+pub tick_later : (clock : Clock) (n : ℕ) (second : ℤ) (step : ℕ) →
+    tick_place clock n second ≤ tick_place clock n (second +ℤ pos step)
 tick_later clock n second step = place_rises clock (moment_of second) (moment_of (second +ℤ pos step)) n
     (second_later second step)

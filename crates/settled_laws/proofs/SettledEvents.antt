@@ -32,15 +32,16 @@ module _ (n m : ℕ) (g h : Extent → Event)
     none_passes : (fs : List Extent) → AllByRecursion (IsInside m) fs → AllByRecursion (IsLater n) fs →
         filter p (map g fs) ≡ []
     none_passes [] inside late = refl
-    none_passes (f ∷ fs) inside late = ap (λ b. cond b (g f ∷ filter p (map g fs)) (filter p (map g fs)))
-        (fails f inside.0 late.0.1) ∙ none_passes fs inside.1 late.1
+    none_passes (f ∷ fs) inside late =
+        ap (λ b. cond b (g f ∷ filter p (map g fs)) (filter p (map g fs))) (fails f inside.0 late.0.1)
+        ∙ none_passes fs inside.1 late.1
 
     told_pass : (es fs : List Extent) → AllByRecursion (IsInside n) es → AllByRecursion (IsInside m) fs →
         Continues n es fs → filter p (map g fs) ≡ filter p (told h es)
     told_pass [] fs within inside c = none_passes fs inside c
     told_pass (e ∷ es) [] within inside c = absurd c
-    told_pass (e ∷ es) (f ∷ fs) within inside c = at e.last f.last within.0.1 inside.0.1 c.1
-        (λ d. told_pass es fs within.1 inside.1 d)
+    told_pass (e ∷ es) (f ∷ fs) within inside c =
+        at e.last f.last within.0.1 inside.0.1 c.1 (λ d. told_pass es fs within.1 inside.1 d)
       where
         at : (o q : Option ℕ) → IfSome o (λ k. k < n) → IfSome q (λ k. k < m)
             → MatchOption o (IsLate n q × AllByRecursion (IsLater n) fs) (λ k. (q ≡ Some k) × (k < n) ×
@@ -49,8 +50,8 @@ module _ (n m : ℕ) (g h : Extent → Event)
             → filter p (map g (extent f.first q ∷ fs)) ≡ filter p (told h (extent e.first o ∷ es))
         at None q in_o in_q d rest = none_passes_here q in_q d.0 d.1
           where
-            none_passes_here : (q : Option ℕ) → IfSome q (λ k. k < m) → IsLate n q → AllByRecursion
-                (IsLater n) fs → filter p (map g (extent f.first q ∷ fs)) ≡ []
+            none_passes_here : (q : Option ℕ) → IfSome q (λ k. k < m) → IsLate n q →
+                AllByRecursion (IsLater n) fs → filter p (map g (extent f.first q ∷ fs)) ≡ []
             none_passes_here q in_q late later =
                 ap (λ b. cond b (g (extent f.first q) ∷ filter p (map g fs)) (filter p (map g fs)))
                 (fails (extent f.first q) (inside.0.0, in_q) late) ∙ none_passes fs inside.1 later
@@ -64,38 +65,38 @@ module _ (n m : ℕ) (g h : Extent → Event)
 
   module _ (t : Event → Bool) (open_at : ℕ → Bool)
       (missed : (f : Extent) → IsInside m f → n ≤ f.first → t (g f) ≡ false)
-      (unended : (f : Extent) → f.first < n → IsInside m f → IsLate n f.last → t (g f) ≡ open_at f.first)
-    where
-      none_any : (fs : List Extent) → AllByRecursion (IsInside m) fs → AllByRecursion (IsLater n) fs →
-          list_any t (map g fs) ≡ false
-      none_any [] inside late = refl
-      none_any (f ∷ fs) inside late = ap (λ b. b || list_any t (map g fs)) (missed f inside.0 late.0.0)
-          ∙ none_any fs inside.1 late.1
+      (unended : (f : Extent) → f.first < n → IsInside m f → IsLate n f.last →
+      t (g f) ≡ open_at f.first) where
+    none_any : (fs : List Extent) → AllByRecursion (IsInside m) fs → AllByRecursion (IsLater n) fs →
+        list_any t (map g fs) ≡ false
+    none_any [] inside late = refl
+    none_any (f ∷ fs) inside late = ap (λ b. b || list_any t (map g fs)) (missed f inside.0 late.0.0)
+        ∙ none_any fs inside.1 late.1
 
-      any_told : (es fs : List Extent) → AllByRecursion (IsInside n) es → AllByRecursion (IsInside m) fs →
-          Continues n es fs → list_any t (map g fs) ≡ told_any h t open_at es
-      any_told [] fs within inside c = none_any fs inside c
-      any_told (e ∷ es) [] within inside c = absurd c
-      any_told (e ∷ es) (f ∷ fs) within inside c = at e.last f.last within.0.1 inside.0.1 c.1
-          (λ d. any_told es fs within.1 inside.1 d)
-        where
-          at : (o q : Option ℕ) → IfSome o (λ k. k < n) → IfSome q (λ k. k < m)
-              → MatchOption o (IsLate n q × AllByRecursion (IsLater n) fs) (λ k. (q ≡ Some k) × (k < n) ×
-              Continues n es fs)
-              → (Continues n es fs → list_any t (map g fs) ≡ told_any h t open_at es)
-              → list_any t (map g (extent f.first q ∷ fs)) ≡ told_any h t open_at (extent e.first o ∷ es)
-          at None q in_o in_q d rest =
-              let first : t (g (extent f.first q)) ≡ open_at e.first =
-              unended (extent f.first q) (subst (λ i. i < n) c.0 within.0.0) (inside.0.0, in_q) d.0 ∙ ap open_at
-              (sym c.0) in
-              ap (λ b. b || list_any t (map g fs)) first ∙ ap (λ b. open_at e.first || b)
-              (none_any fs inside.1 d.1)
-          at (Some k) q in_o in_q d rest =
-              let first : g (extent f.first q) ≡ h (extent e.first (Some k)) =
-              ap (λ r. g (extent f.first r)) d.0 ∙ ap (λ i. g (extent i (Some k))) (sym c.0)
-              ∙ same e.first k within.0.0 in_o in
-              ap (λ x. t x || list_any t (map g fs)) first ∙ ap (λ b. t (h (extent e.first (Some k))) || b)
-              (rest d.2)
+    any_told : (es fs : List Extent) → AllByRecursion (IsInside n) es → AllByRecursion (IsInside m) fs →
+        Continues n es fs → list_any t (map g fs) ≡ told_any h t open_at es
+    any_told [] fs within inside c = none_any fs inside c
+    any_told (e ∷ es) [] within inside c = absurd c
+    any_told (e ∷ es) (f ∷ fs) within inside c =
+        at e.last f.last within.0.1 inside.0.1 c.1 (λ d. any_told es fs within.1 inside.1 d)
+      where
+        at : (o q : Option ℕ) → IfSome o (λ k. k < n) → IfSome q (λ k. k < m)
+            → MatchOption o (IsLate n q × AllByRecursion (IsLater n) fs) (λ k. (q ≡ Some k) × (k < n) ×
+            Continues n es fs)
+            → (Continues n es fs → list_any t (map g fs) ≡ told_any h t open_at es)
+            → list_any t (map g (extent f.first q ∷ fs)) ≡ told_any h t open_at (extent e.first o ∷ es)
+        at None q in_o in_q d rest =
+            let first : t (g (extent f.first q)) ≡ open_at e.first =
+            unended (extent f.first q) (subst (λ i. i < n) c.0 within.0.0) (inside.0.0, in_q) d.0
+            ∙ ap open_at (sym c.0) in
+            ap (λ b. b || list_any t (map g fs)) first
+            ∙ ap (λ b. open_at e.first || b) (none_any fs inside.1 d.1)
+        at (Some k) q in_o in_q d rest =
+            let first : g (extent f.first q) ≡ h (extent e.first (Some k)) =
+            ap (λ r. g (extent f.first r)) d.0 ∙ ap (λ i. g (extent i (Some k))) (sym c.0)
+            ∙ same e.first k within.0.0 in_o in
+            ap (λ x. t x || list_any t (map g fs)) first
+            ∙ ap (λ b. t (h (extent e.first (Some k))) || b) (rest d.2)
 
 -- ---- over conditions and more of them, whose windows begin at place w or after it
 
@@ -113,8 +114,8 @@ some_right P [] [] k h from below = absurd (omega (arith, below))
 some_right P [] (y ∷ ys) zero h from below = (y, refl, h.0)
 some_right P [] (y ∷ ys) (suc k) h from below = some_right P [] ys k h.1 (omega arith) (omega (arith, below))
 some_right P (x ∷ xs) ys zero h from below = absurd (omega (arith, from))
-some_right P (x ∷ xs) ys (suc k) h from below = some_right P xs ys k h (omega (arith, from))
-    (omega (arith, below))
+some_right P (x ∷ xs) ys (suc k) h from below =
+    some_right P xs ys k h (omega (arith, from)) (omega (arith, below))
 
 -- the window begins at place w or after it, and ends after w
 abbrev pub IsAhead : ℕ → Condition → Type 0
@@ -151,15 +152,15 @@ module _ (kind : Kind) (n w : ℕ) (cs : List Condition) where
         is_open = is_left;
       }
 
-  same_seen : (ds : List Condition) (j k : ℕ) → j < length cs → k < length cs → slice_range (cs ++ ds) j
-      (k + 1) ≡ slice_range cs j (k + 1)
+  same_seen : (ds : List Condition) (j k : ℕ) → j < length cs → k < length cs →
+      slice_range (cs ++ ds) j (k + 1) ≡ slice_range cs j (k + 1)
   same_seen ds j k begun at =
       ap (take (k + 1 - j)) (drop-append-le j cs ds (omega (arith, begun)))
       ∙ take-append-le (k + 1 - j) (drop j cs) ds (omega (arith, length-drop j cs, begun, at))
 
   -- an event that has ended is the same over more conditions, whatever the end of the list
-  same_event : (ds : List Condition) (j k : ℕ) → j < length cs → k < length cs → event_over kind n (cs ++ ds)
-      (extent j (Some k)) ≡ event_over kind 0 cs (extent j (Some k))
+  same_event : (ds : List Condition) (j k : ℕ) → j < length cs → k < length cs →
+      event_over kind n (cs ++ ds) (extent j (Some k)) ≡ event_over kind 0 cs (extent j (Some k))
   unfolding event_over
   same_event ds j k begun at =
       let there = some_left cs k at in
@@ -183,8 +184,8 @@ module _ (kind : Kind) (n w : ℕ) (cs : List Condition) where
       at_end None h = less
       at_end (Some c) h = h.1
 
-      at : (o : Option ℕ) → IsLate (length cs) o → w < option_map_or (λ c. c.window.end) (option_and_then
-          (slice_get (cs ++ ds)) o) n
+      at : (o : Option ℕ) → IsLate (length cs) o →
+          w < option_map_or (λ c. c.window.end) (option_and_then (slice_get (cs ++ ds)) o) n
       at None late = less
       at (Some k) late = at_end (slice_get (cs ++ ds) k) (any_right (IsAhead w) cs ds k ahead late)
 
@@ -209,11 +210,11 @@ module _ (kind : Kind) (n w : ℕ) (cs : List Condition) where
   told_from : (m i : ℕ) → told (event_over kind 0 cs) (successors (event_after cs) m (event_from cs i))
       ≡ map (event_over kind 0 cs) (filter (λ e. is_some e.last) (successors (event_after cs) m
       (event_from cs i)))
-  told_from zero i = at_limit (λ es. told (event_over kind 0 cs) es ≡ map (event_over kind 0 cs)
-      (filter (λ e. is_some e.last) es)) cs (event_from cs i) refl
+  told_from zero i = at_limit (λ es. told (event_over kind 0 cs) es
+      ≡ map (event_over kind 0 cs) (filter (λ e. is_some e.last) es)) cs (event_from cs i) refl
   told_from (suc m) i =
-      by_found (λ es. told (event_over kind 0 cs) es ≡ map (event_over kind 0 cs)
-      (filter (λ e. is_some e.last) es)) cs m i refl (λ j begun. refl)
+      by_found (λ es. told (event_over kind 0 cs) es
+      ≡ map (event_over kind 0 cs) (filter (λ e. is_some e.last) es)) cs m i refl (λ j begun. refl)
       (λ j k begun at. ap (λ xs. event_over kind 0 cs (extent j (Some k)) ∷ xs) (told_from m (k + 1)))
 
   told_ended : told (event_over kind 0 cs) (extents cs) ≡ ended_events kind cs
@@ -232,15 +233,16 @@ module _ (kind : Kind) (n w : ℕ) (cs : List Condition) where
         || option_map_or (λ s. nat_lt s end) (option_map (λ event. event.start) (find (λ event. event.is_open)
         (map (event_over kind 0 cs) es))) false
 
-    any_from : (m i : ℕ) → told_any (event_over kind 0 cs) (λ e. overlaps e start end) (λ j. nat_lt
-        (start_of j) end) (successors (event_after cs) m (event_from cs i))
+    any_from : (m i : ℕ) → told_any (event_over kind 0 cs) (λ e. overlaps e start end)
+        (λ j. nat_lt (start_of j) end) (successors (event_after cs) m (event_from cs i))
         ≡ told_so (successors (event_after cs) m (event_from cs i))
     unfolding event_over
-    any_from zero i = at_limit (λ es. told_any (event_over kind 0 cs) (λ e. overlaps e start end) (λ j. nat_lt
-        (start_of j) end) es ≡ told_so es) cs (event_from cs i) refl
+    any_from zero i = at_limit (λ es. told_any (event_over kind 0 cs) (λ e. overlaps e start end)
+        (λ j. nat_lt (start_of j) end) es ≡ told_so es) cs (event_from cs i) refl
     any_from (suc m) i =
-        by_found (λ es. told_any (event_over kind 0 cs) (λ e. overlaps e start end) (λ j. nat_lt
-        (start_of j) end) es ≡ told_so es) cs m i refl (λ j begun. or_false (nat_lt (start_of j) end))
+        by_found (λ es. told_any (event_over kind 0 cs) (λ e. overlaps e start end)
+        (λ j. nat_lt (start_of j) end) es
+        ≡ told_so es) cs m i refl (λ j begun. or_false (nat_lt (start_of j) end))
         (λ j k begun at.
         let rest = successors (event_after cs) m (event_from cs (k + 1)) in
         let this = overlaps (event_over kind 0 cs (extent j (Some k))) start end in
@@ -256,15 +258,15 @@ module _ (kind : Kind) (n w : ℕ) (cs : List Condition) where
 
     any_ended : told_any (event_over kind 0 cs) (λ e. overlaps e start end) (λ j. nat_lt (start_of j) end)
         (extents cs)
-        ≡ (is_touched (ended_events kind cs) start end || option_map_or (λ s. nat_lt s end)
-        (open_start kind cs) false)
+        ≡ (is_touched (ended_events kind cs) start end ||
+        option_map_or (λ s. nat_lt s end) (open_start kind cs) false)
     unfolding extents ended_events open_start events is_touched
     any_ended = any_from (length cs) 0
 
   -- the events that end by w are those that the conditions so far have ended
   pub settled_events : (ds : List Condition) → w < n → AllByRecursion (IsAhead w) ds
-      → filter (λ e. nat_le e.end w) (events kind n (cs ++ ds)) ≡ filter (λ e. nat_le e.end w)
-      (ended_events kind cs)
+      → filter (λ e. nat_le e.end w) (events kind n (cs ++ ds))
+      ≡ filter (λ e. nat_le e.end w) (ended_events kind cs)
   unfolding events
   settled_events ds less ahead =
       told_pass (length cs) (length (cs ++ ds)) (event_over kind n (cs ++ ds)) (event_over kind 0 cs)

@@ -10,20 +10,17 @@ use Rattle.settled_laws.specs.Touch.{touches_now}
 use Rattle.settled_laws.proofs.SettledLaws.{IsFrom, any_kind, touched_joined, any_kind_same, touched_so, all_touched}
 
 -- the windows of the conditions are those that are merged
-begun_from : (kind : Kind) (limits : Limits) (channels w a : ℕ) (all ms : List ChannelWindow) → AllByRecursion
-    (λ m. m.window.start < w) ms
+begun_from : (kind : Kind) (limits : Limits) (channels w a : ℕ) (all ms : List ChannelWindow) →
+    AllByRecursion (λ m. m.window.start < w) ms
     → AllByRecursion (λ c. c.window.start < w) (map (λ p. condition_at kind limits channels all p.0 p.1)
     (enumerate_from a ms))
 begun_from kind limits channels w a all [] h = tt
-begun_from kind limits channels w a all (m ∷ ms) h = (
-  h.0,
-  begun_from kind limits channels w
-      (a + 1) all ms h.1,
-)
+begun_from kind limits channels w a all (m ∷ ms) h =
+    (h.0, begun_from kind limits channels w (a + 1) all ms h.1)
 
-conditions_begun : (kind : Kind) (limits : Limits) (channels w : ℕ) (ms : List ChannelWindow) → AllByRecursion
-    (λ m. m.window.start < w) ms → AllByRecursion (λ c. c.window.start < w) (conditions kind limits channels
-    ms)
+conditions_begun : (kind : Kind) (limits : Limits) (channels w : ℕ) (ms : List ChannelWindow) →
+    AllByRecursion (λ m. m.window.start < w) ms →
+    AllByRecursion (λ c. c.window.start < w) (conditions kind limits channels ms)
 unfolding conditions
 conditions_begun kind limits channels w ms h = begun_from kind limits channels w 0 ms ms h
 
@@ -32,8 +29,8 @@ conditions_begun kind limits channels w ms h = begun_from kind limits channels w
 pub all_touched_now : (limits : Limits) (channels n start end : ℕ) (ms more : List ChannelWindow) →
     start < end → end ≤ n
     → AllByRecursion (λ m. m.window.start < end) ms → AllByRecursion (IsFrom end) more
-    → is_touched (all_polyphase_events limits channels n (ms ++ more)) start end ≡ any_kind
-    (λ kind. touches_now kind limits channels start ms) kinds
+    → is_touched (all_polyphase_events limits channels n (ms ++ more)) start end
+    ≡ any_kind (λ kind. touches_now kind limits channels start ms) kinds
 unfolding all_polyphase_events
 all_touched_now limits channels n start end ms more order inside begun ahead =
     touched_joined (λ kind. polyphase_events kind limits channels n (ms ++ more)) start end kinds
@@ -45,7 +42,7 @@ all_touched_now limits channels n start end ms more order inside begun ahead =
     kinds)
     ∙ all_touched limits channels (n + 1) end start end ms more (omega (arith, inside)) ahead
     (omega (arith, order)) (omega arith)
-    ∙ any_kind_same (λ kind. touched_so kind limits channels start end ms) (λ kind. touches_now kind limits
-    channels start ms)
+    ∙ any_kind_same (λ kind. touched_so kind limits channels start end ms)
+    (λ kind. touches_now kind limits channels start ms)
     (λ kind. touched_at_once kind (conditions kind limits channels ms) start end (omega (arith, order))
     (conditions_begun kind limits channels end ms begun)) kinds
