@@ -6,6 +6,8 @@ pub use steps::Steps;
 
 mod channel;
 mod first_start;
+mod labels;
+mod length;
 mod next_due;
 mod outbox;
 mod queue;
