@@ -1,3 +1,4 @@
+mod AddLaws
 mod EarliestStep
 mod OutboxLaws
 mod PlaceRises

@@ -1,9 +1,9 @@
 // What is measured, as items.
-ghost use Rattle.std.specs.Prelude.{◌≡◌, ◌+◌, ◌*◌, ◌<◌, ◌≤◌, [], ◌∷◌, length, option_to_list, slice_index, IfOk};
+ghost use Rattle.std.specs.Prelude.{◌≡◌, ◌+◌, ◌*◌, ◌<◌, ◌≤◌, Bool, [], ◌∷◌, length, option_to_list, slice_index, IfOk};
 ghost use Rattle.aggregate.specs.BasicOrder.{basic_of};
 ghost use Rattle.aggregate.specs.Sum.{part_of};
 ghost use Rattle.interval_ledger.specs.Added.{answered_items, completed_items};
-ghost use Rattle.interval_ledger.specs.Label.{Adds, group_item};
+ghost use Rattle.interval_ledger.specs.Label.{Adds, group_item, item_of_group};
 ghost use Rattle.pq_sequence.specs.BasicInterval.{cycles_of};
 ghost use Rattle.pq_sequence.specs.SequentialResult.{basic_item, channel_items, event_item, event_items, for_each_channel, item_of_kind, number_of};
 ghost use Rattle.pq_items.specs.declared.item.Item.TheVariants.{Frequency};
@@ -90,11 +90,133 @@ impl Labels {
         }
     }
 
+    // Adds a basic interval, and the intervals that it completes.
+    pub(crate) fn push_completed(
+        &self,
+        outbox: &mut Outbox,
+        span: Span,
+        values: &[u64],
+        flagged: bool,
+        out: &Out,
+    )
+        requires values { length self.now.recording.value.numbers ≤ length values.now }
+        requires room { 4 * length self.now.recording.value.numbers ≤ outbox.old.room }
+        ensures { (front : Bool) → Adds (4 * length self.now.recording.value.numbers) outbox.old outbox.new
+            (completed_items self.now.recording.value (basic_of front span values.now flagged) out.now) }
+    {
+        self.push_basic(outbox, span, values, flagged);
+        self.push_group(outbox, Length::Short, &out.short);
+        self.push_group(outbox, Length::TenMinutes, &out.ten);
+        self.push_group(outbox, Length::TwoHours, &out.two);
+    }
+
+    // Adds a basic interval, one item a channel.
+    fn push_basic(&self, outbox: &mut Outbox, span: Span, values: &[u64], flagged: bool)
+        requires values { length self.now.recording.value.numbers ≤ length values.now }
+        requires room { length self.now.recording.value.numbers ≤ outbox.old.room }
+        ensures { Adds (length self.now.recording.value.numbers) outbox.old outbox.new
+            (channel_items self.now.recording.value
+            (basic_item self.now.recording.value (part_of span values.now flagged))) }
+    {
+        for position in 0..self.numbers.len() {
+            outbox.push(self.basic_item(span, values, flagged, position));
+        }
+    }
+
+    // Adds an aggregated interval of a length, if there is one.
+    fn push_group(&self, outbox: &mut Outbox, long: Length, group: &Option<Group>)
+        requires { length self.now.recording.value.numbers ≤ outbox.old.room }
+        ensures { Adds (length self.now.recording.value.numbers) outbox.old outbox.new
+            (for_each_channel self.now.recording.value (group_item long self.now.recording.value)
+            (option_to_list group.now)) }
+    {
+        if let Some(group) = group {
+            self.push_each(outbox, long, group);
+        }
+    }
+
+    // Adds an aggregated interval of a length, one item a channel.
+    fn push_each(&self, outbox: &mut Outbox, long: Length, group: &Group)
+        requires { length self.now.recording.value.numbers ≤ outbox.old.room }
+        ensures { Adds (length self.now.recording.value.numbers) outbox.old outbox.new
+            (channel_items self.now.recording.value
+            (group_item long self.now.recording.value group.now)) }
+    {
+        for position in 0..self.numbers.len() {
+            outbox.push(self.group_item(long, group, position));
+        }
+    }
+
+    // A basic interval as the item of the channel at a position.
+    fn basic_item(&self, span: Span, values: &[u64], flagged: bool, position: usize) -> Item
+        requires position { position < length self.now.recording.value.numbers }
+        requires values { length self.now.recording.value.numbers ≤ length values.now }
+        ensures { result
+            ≡ basic_item self.now.recording.value (part_of span values.now flagged) position }
+    {
+        Item::Basic {
+            channel: self.numbers[position],
+            start: span.start,
+            end: span.end,
+            cycles: self.cycles,
+            value: values[position],
+            flagged,
+        }
+    }
+
+    // An aggregated interval of a length as that of the channel at a position.
+    fn group_item(&self, long: Length, group: &Group, position: usize) -> Item
+        requires { position < length self.now.recording.value.numbers }
+        ensures { result ≡ group_item long self.now.recording.value group.now position }
+    {
+        let value = group.values.get(position).copied().unwrap_or(0);
+        item_of_group(long, self.numbers[position], group, value)
+    }
+
     // The number of the channel at a position, and 0 past the channels.
     fn number(&self, position: u32) -> u32
         ensures { result ≡ number_of self.now.recording.value position }
     {
         self.numbers.get(position as usize).copied().unwrap_or(0)
+    }
+}
+
+// An aggregated interval of a length as an item of a channel, with its value.
+fn item_of_group(long: Length, channel: u32, group: &Group, value: u64) -> Item
+    ensures { result ≡ item_of_group long channel value group.now }
+{
+    let Group {
+        start,
+        end,
+        flagged,
+        ..
+    } = *group;
+    let tick = group.tick.unwrap_or(0);
+    match long {
+        Length::Short => Item::Short {
+            channel,
+            start,
+            end,
+            value,
+            flagged,
+        },
+        Length::TenMinutes => Item::Ten {
+            channel,
+            tick,
+            start,
+            end,
+            basics: group.count,
+            value,
+            flagged,
+        },
+        Length::TwoHours => Item::TwoHour {
+            channel,
+            tick,
+            start,
+            end,
+            value,
+            flagged,
+        },
     }
 }
 
