@@ -5,3 +5,4 @@ mod SegmentLaws
 mod WatchLaws
 pub mod ItemLaws
 pub mod WindowLaws
+pub mod KnownLaws
