@@ -62,7 +62,8 @@ module _ (r : Recorded) (limits : Limits) (w : ℕ) (given : IsRecording r) wher
 
   module _ (early others : List Reading) (split : recorded_readings r ≡ early ++ others)
       (after : AllByRecursion (λ x. w < x.end) others) where
-    pub readings_known : filter (ends_until w) (reading_items (recorded_events r limits) (recorded_readings r))
+    pub readings_known : filter (ends_until w)
+        (reading_items (recorded_events r limits) (recorded_readings r))
         ≡ filter (ends_until w) (reading_items (recorded_events r limits) early)
     readings_known =
         let made : Reading → Item = reading_item (recorded_events r limits) in
@@ -77,12 +78,14 @@ module _ (r : Recorded) (limits : Limits) (w : ℕ) (given : IsRecording r) wher
   module _ (core later : List Basic) (split : all_basics r limits ≡ core ++ later)
       (after : AllByRecursion (IsAfter w) later) where
     linked : AreLinked (recorded_places r) (core ++ later)
-    linked = subst (AreLinked (recorded_places r)) split (basics_are_linked r (recorded_events r limits) given)
+    linked = subst (AreLinked (recorded_places r)) split
+        (basics_are_linked r (recorded_events r limits) given)
 
     rise : EndsRise (core ++ later)
     rise = linked_rise (recorded_places r) (core ++ later) linked
 
-    segments : AllByRecursion (λ p. EndsSegment (core ++ later) (tick_place (clock_of r) (sample_count r) p.1))
+    segments : AllByRecursion (λ p.
+        EndsSegment (core ++ later) (tick_place (clock_of r) (sample_count r) p.1))
         (tick_pairs (clock_of r) (sample_count r) 600)
     segments = ticks_end (clock_of r) (sample_count r) (core ++ later) linked
 
@@ -92,8 +95,10 @@ module _ (r : Recorded) (limits : Limits) (w : ℕ) (given : IsRecording r) wher
         let by : List Part → List Item = flat_map (λ p. map (basic_item r p) (positions r)) in
         let late : AllByRecursion (λ p. nat_le p.end w ≡ false) (parts_of later) =
         all_mapped (λ p. nat_le p.end w ≡ false) (λ b. b.part) later
-        (all_from (IsAfter w) (λ b. nat_le b.part.end w ≡ false) (λ b h. late_is b.part.end w h) later after) in
-        each_filtered w (λ p. p.end) (basic_item r) (λ p c. refl) (positions r) (parts_of (all_basics r limits))
+        (all_from (IsAfter w) (λ b. nat_le b.part.end w ≡ false) (λ b h. late_is b.part.end w h) later after)
+        in
+        each_filtered w (λ p. p.end) (basic_item r) (λ p c. refl) (positions r)
+        (parts_of (all_basics r limits))
         ∙ ap (λ bs. by (filter (λ p. nat_le p.end w) (parts_of bs))) split
         ∙ ap (λ ps. by (filter (λ p. nat_le p.end w) ps)) (map-append (λ b. b.part) core later)
         ∙ ap by (filter_left (λ p. nat_le p.end w) (parts_of core) (parts_of later) late)
@@ -108,7 +113,8 @@ module _ (r : Recorded) (limits : Limits) (w : ℕ) (given : IsRecording r) wher
         ∙ ap (flat_map (λ g. map (item_of g) (positions r))) e
         ∙ sym (each_filtered w (λ g. g.end) item_of ends (positions r) hs)
 
-    pub shorts_known : filter (ends_until w) (for_each_channel r (short_item r) (shorts_of r (all_basics r limits)))
+    pub shorts_known : filter (ends_until w)
+        (for_each_channel r (short_item r) (shorts_of r (all_basics r limits)))
         ≡ filter (ends_until w) (for_each_channel r (short_item r) (shorts_of r core))
     shorts_known =
         groups_known (short_item r) (λ g c. refl) (shorts_of r (all_basics r limits)) (shorts_of r core)
@@ -139,7 +145,8 @@ module _ (r : Recorded) (limits : Limits) (w : ℕ) (given : IsRecording r) wher
       (after : AllByRecursion (λ x. w ≤ x.window.start) more) where
     pub more_from : AllByRecursion (IsFrom w) more
     more_from =
-        all_both (λ x. IsWindow x.window) (λ x. w ≤ x.window.start) (IsFrom w) (λ x is h. (h, omega (arith, is, h)))
+        all_both (λ x. IsWindow x.window) (λ x. w ≤ x.window.start) (IsFrom w)
+        (λ x is h. (h, omega (arith, is, h)))
         more
         (all_right (λ x. IsWindow x.window) fed more
         (subst (AllByRecursion (λ x. IsWindow x.window)) split (not_empty r given))) after
@@ -179,7 +186,8 @@ module _ (r : Recorded) (limits : Limits) (w : ℕ) (given : IsRecording r) wher
       let later = drop m.basics (all_basics r limits) in
       let p = ends_until w in
       both_kept p _ _ _ _ (both_kept p _ _ _ _ (both_kept p _ _ _ _ (both_kept p _ _ _ _ (both_kept p _ _ _ _
-      (readings_known (take m.readings (recorded_readings r)) (drop m.readings (recorded_readings r)) at_readings
+      (readings_known (take m.readings (recorded_readings r)) (drop m.readings (recorded_readings r))
+      at_readings
       settled.readings)
       (basics_known core later at_basics settled.basics))
       (shorts_known core later at_basics settled.basics))

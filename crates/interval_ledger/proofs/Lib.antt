@@ -6,3 +6,5 @@ mod WatchLaws
 pub mod ItemLaws
 pub mod WindowLaws
 pub mod KnownLaws
+pub mod ReleaseLaws
+pub mod StepLaws
