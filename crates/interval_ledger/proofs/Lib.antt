@@ -6,3 +6,6 @@ mod SegmentLaws
 mod WatchLaws
 pub mod ItemLaws
 pub mod WindowLaws
+pub mod KnownLaws
+pub mod ReleaseLaws
+pub mod StepLaws

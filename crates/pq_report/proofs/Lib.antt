@@ -9,4 +9,6 @@ mod FieldBackLemmas
 mod RowBackLemmas
 mod ItemBackLemmas
 mod ReadsBackLemmas
+mod TallyLemmas
+mod SummaryLemmas
 mod StandardFacts

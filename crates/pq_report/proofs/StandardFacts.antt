@@ -5,6 +5,7 @@ use Rattle.jiff_core.specs.Calendar.{days_of_months}
 use Rattle.pq_items.specs.declared.item.Item.TheVariants as item
 use Rattle.pq_report.specs.ReportReading.{fields_read, header_read, item_read, kind_read, number_read, parts_read, report_read, rows_read, span_read}
 use Rattle.pq_report.specs.ReportText.{header, item_row, rows_text}
+use Rattle.pq_report.specs.Summary.{summary_text}
 use Rattle.pq_report.specs.declared.fault.ReportFault.TheVariants as fault
 use Rattle.pq_time.specs.Printed.{date_shown, printed_moment}
 use Rattle.pq_time.specs.Time.{time_of}
@@ -70,3 +71,24 @@ pub rows_at_fault : (report_read clock (codes
     "kind,channel,start,end,from,to,tick,value,count,mark\ntwo") ≡ Err (fault.Field 2 0))
 unfolding parts_read rows_read header_read fields_read span_read item_read kind_read number_read digits
 rows_at_fault = (refl, refl, refl)
+
+-- the summary of no items, and of the two of two_intervals
+pub summaries : (summary_text 0 0 [] ≡ codes
+    "seed 0\nsamples 0\nfreq 0 flagged 0\nbasic 0 flagged 0\nshort 0 flagged 0\nten 0 flagged 0\ntwo 0 flagged 0\ndip 0 open 0\nswell 0 open 0\ninterruption 0 open 0\nfold 0\n")
+    × (summary_text 7 552
+    (item.Basic 1 24 264 10 229805362 false ∷ item.Basic 1 264 504 10 229805362 false ∷ []) ≡ codes
+    "seed 7\nsamples 552\nfreq 0 flagged 0\nbasic 2 flagged 0\nshort 0 flagged 0\nten 0 flagged 0\ntwo 0 flagged 0\ndip 0 open 0\nswell 0 open 0\ninterruption 0 open 0\nfold 7353780272\n")
+unfolding summary_text digits
+summaries = (refl, refl)
+
+-- items of each kind; the fold passes 2^64
+pub summary_of_each : summary_text 18446744073709551615 722400
+    (item.Frequency (pos 1709294410) 6 12006 499 50000000 false ∷ item.Basic 1 24 264 10 229805362 false
+    ∷ item.Basic 2 264 504 12 211869380 true ∷ item.Short 1 24 3624 229805362 false
+    ∷ item.Ten 1 (pos 1709294400) 1200 720720 2998 229805362 true
+    ∷ item.TwoHour 1 (pos 1709294400) 0 8640000 18446744073709551615 true
+    ∷ item.Dip 1 252 336 114896273 false ∷ item.Dip 2 300 400 114896273 true
+    ∷ item.Swell 3 12 24 253000001 false ∷ item.Interruption 1 0 1200 0 true ∷ []) ≡ codes
+    "seed 18446744073709551615\nsamples 722400\nfreq 1 flagged 0\nbasic 2 flagged 1\nshort 1 flagged 0\nten 1 flagged 1\ntwo 1 flagged 1\ndip 2 open 1\nswell 1 open 0\ninterruption 1 open 1\nfold 11704348829557553478\n"
+unfolding summary_text digits
+summary_of_each = refl

@@ -1,3 +1,4 @@
 pub mod ReportText
 pub mod ShownSecond
 pub mod ReportReading
+pub mod Summary

@@ -19,7 +19,7 @@ pub(crate) enum ItemKind {
 }
 
 // The kinds, as they are listed.
-const KINDS: [ItemKind; 8] = [
+pub(crate) const KINDS: [ItemKind; 8] = [
     ItemKind::Frequency,
     ItemKind::Basic,
     ItemKind::Short,
@@ -32,6 +32,7 @@ const KINDS: [ItemKind; 8] = [
 
 impl ItemKind {
     ghost use Rattle.std.specs.Prelude.{◌≡◌};
+    ghost use Rattle.pq_items.specs.ItemTable.{rank_of};
     ghost use Rattle.pq_report.specs.ReportReading.{has_ticks, is_channel_of, is_count_of, kind_read, mark_read};
     ghost use Rattle.pq_report.specs.ReportText.{is_event, kind_of, kind_word, mark_word};
 
@@ -48,6 +49,13 @@ impl ItemKind {
             Item::Swell { .. } => ItemKind::Swell,
             Item::Interruption { .. } => ItemKind::Interruption,
         }
+    }
+
+    // The rank of an item's kind among the kinds.
+    pub(crate) fn rank_of(item: &Item) -> usize
+        ensures { result ≡ rank_of item.now }
+    {
+        ItemKind::of(item) as usize
     }
 
     pub(crate) fn word(self) -> &'static str

@@ -4,6 +4,7 @@
 pub use fault::ReportFault;
 pub use laws::{needs_no_quotes, reads_back};
 pub use reading::read_report;
+pub use result_summary::summary;
 pub use rows::{header, row};
 pub use whole_report::report;
 
@@ -13,6 +14,7 @@ mod kind;
 mod laws;
 mod moments;
 mod reading;
+mod result_summary;
 mod row_items;
 mod rows;
 #[cfg(test)]

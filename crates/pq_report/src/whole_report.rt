@@ -114,7 +114,8 @@ fn push_tick(text: &mut Vec<u8>, tick: Option<i64>) -> Result<(), AllocError>
     Ok(())
 }
 
-fn push_number(text: &mut Vec<u8>, number: u64) -> Result<(), AllocError>
+// Appends the decimal text of a number.
+pub(crate) fn push_number(text: &mut Vec<u8>, number: u64) -> Result<(), AllocError>
     ensures { Pushes result text.old text.new (decimal number) }
 {
     let mut buffer = Buffer::new();

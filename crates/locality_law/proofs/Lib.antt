@@ -1,0 +1,5 @@
+pub mod BasicAgreement
+pub mod EventAgreement
+pub mod LaneAgreement
+pub mod LocalityLaw
+pub mod PostedLaws
