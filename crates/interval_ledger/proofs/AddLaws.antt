@@ -1,5 +1,5 @@
 -- Items that are put with those that wait, one after another.
-use Rattle.std.proofs.Common.{◌≡◌, ℕ, ◌+◌, ◌*◌, ◌≤◌, List, [], ◌∷◌, ◌++◌, refl, sym, ◌∙◌, ap, arith, append-nil}
+use Rattle.std.proofs.Common.{◌≡◌, ℕ, ◌+◌, ◌*◌, List, [], ◌∷◌, ◌++◌, refl, sym, ◌∙◌, ap, arith, append-nil}
 use Rattle.interval_ledger.specs.Label.{Adds}
 use Rattle.interval_ledger.specs.Outbox.{Outgoing}
 use Rattle.pq_items.specs.declared.item.Item.{Item}

@@ -14,5 +14,6 @@ pub loop-position-preserved : goal.loop-position-preserved
 loop-position-preserved c =
     adds_more c.loop-position.position c.args.outbox.now c.loop-position.outbox c.push.new.self
     (basic_item c.args.self.now.recording.value (part_of c.args.span c.args.values.now c.args.flagged))
-    c.basic_item.result c.loop-position.invariant c.basic_item.ensures c.push.ensures.released c.push.ensures.pending
+    c.basic_item.result c.loop-position.invariant c.basic_item.ensures
+    c.push.ensures.released c.push.ensures.pending
     c.push.ensures.room

@@ -13,5 +13,6 @@ pub loop-position-preserved : goal.loop-position-preserved
 loop-position-preserved c =
     adds_more c.loop-position.position c.args.outbox.now c.loop-position.outbox c.push.new.self
     (group_item c.args.long c.args.self.now.recording.value c.args.group.now)
-    c.group_item.result c.loop-position.invariant c.group_item.ensures c.push.ensures.released c.push.ensures.pending
+    c.group_item.result c.loop-position.invariant c.group_item.ensures
+    c.push.ensures.released c.push.ensures.pending
     c.push.ensures.room
