@@ -9,3 +9,6 @@ pub mod WindowLaws
 pub mod KnownLaws
 pub mod ReleaseLaws
 pub mod StepLaws
+pub mod FinishLaws
+pub mod OpenLaws
+pub mod FedLaws

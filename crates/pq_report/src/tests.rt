@@ -1,7 +1,10 @@
-// Texts of reports by hand, read back, and the first fault of texts that are none.
+// Texts of reports by hand, read back, the first fault of texts that are none, and a summary by hand.
+ghost use Rattle.std.specs.Prelude.{All};
+ghost use Rattle.pq_items.specs.ItemRange.{IsItemInRange};
 ghost use Rattle.pq_time.specs.Time.{IsClock};
 
-use crate::{ReportFault, header, read_report, report};
+use crate::{ReportFault, header, read_report, report, row, summary};
+use pq_base::OutOfMemory;
 use pq_items::Item;
 use pq_time::Clock;
 use std::alloc::{AllocError, Global};
@@ -53,6 +56,17 @@ fn joined(alloc: Global, pieces: &[&str]) -> Result<Vec<u8>, AllocError> {
     Ok(text)
 }
 
+// The header and the row of each item, one after another.
+fn by_rows(alloc: Global, items: &[Item]) -> Result<Vec<u8>, OutOfMemory>
+    requires { All IsItemInRange items.now }
+{
+    let mut text = header(alloc)?.bytes().to_vec(alloc)?;
+    for item in items {
+        text.extend_from_slice(row(alloc, &clock(), item)?.bytes())?;
+    }
+    Ok(text)
+}
+
 // What a text is read as: so many items, or its first fault.
 fn at(row: u64, field: u32) -> Result<usize, ReportFault> {
     Err(ReportFault::Field { row, field })
@@ -76,6 +90,8 @@ fn report_read_back(rt: HostRuntime) -> Result<(), Fail> {
     }
     let written = report(alloc, &clock(), read.as_slice())?;
     assert!(rt; written.bytes() == text.as_slice());
+    let rows = by_rows(alloc, read.as_slice())?;
+    assert!(rt; rows.as_slice() == text.as_slice());
     assert!(rt; header(alloc)?.bytes() == HEAD.as_bytes());
     Ok(())
 }
@@ -247,5 +263,88 @@ fn cut_at_each_byte(rt: HostRuntime) -> Result<(), Fail> {
         };
         assert!(rt; count(alloc, front) == expected, "at {end}");
     }
+    Ok(())
+}
+
+// An item of each kind but a second basic interval and a second dip; the fold passes 2^64.
+#[test]
+fn one_of_each_kind(rt: HostRuntime) -> Result<(), Fail> {
+    let alloc = rt.alloc();
+    let items = [
+        Item::Frequency {
+            tick: 1_709_294_410,
+            start: 6,
+            end: 12_006,
+            cycles: 499,
+            microhertz: 50_000_000,
+            flagged: false,
+        },
+        basic(24, 264),
+        Item::Basic {
+            channel: 2,
+            start: 264,
+            end: 504,
+            cycles: 12,
+            value: 211_869_380,
+            flagged: true,
+        },
+        Item::Short {
+            channel: 1,
+            start: 24,
+            end: 3_624,
+            value: 229_805_362,
+            flagged: false,
+        },
+        Item::Ten {
+            channel: 1,
+            tick: 1_709_294_400,
+            start: 1_200,
+            end: 720_720,
+            basics: 2_998,
+            value: 229_805_362,
+            flagged: true,
+        },
+        Item::TwoHour {
+            channel: 1,
+            tick: 1_709_294_400,
+            start: 0,
+            end: 8_640_000,
+            value: u64::MAX,
+            flagged: true,
+        },
+        Item::Dip {
+            channel: 1,
+            start: 252,
+            end: 336,
+            value: 114_896_273,
+            is_open: false,
+        },
+        Item::Dip {
+            channel: 2,
+            start: 300,
+            end: 400,
+            value: 114_896_273,
+            is_open: true,
+        },
+        Item::Swell {
+            channel: 3,
+            start: 12,
+            end: 24,
+            value: 253_000_001,
+            is_open: false,
+        },
+        Item::Interruption {
+            channel: 1,
+            start: 0,
+            end: 1_200,
+            value: 0,
+            is_open: true,
+        },
+    ];
+    let text = summary(alloc, u64::MAX, 722_400, &items)?;
+    let wanted = "seed 18446744073709551615\nsamples 722400\n\
+        freq 1 flagged 0\nbasic 2 flagged 1\nshort 1 flagged 0\nten 1 flagged 1\ntwo 1 flagged 1\n\
+        dip 2 open 1\nswell 1 open 0\ninterruption 1 open 1\nfold 11704348829557553478\n";
+    assert!(rt; text.bytes() == wanted.as_bytes());
     Ok(())
 }
