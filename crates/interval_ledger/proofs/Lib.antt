@@ -1,4 +1,5 @@
 mod AddLaws
+mod KnownStep
 mod EarliestStep
 mod OutboxLaws
 mod PlaceRises

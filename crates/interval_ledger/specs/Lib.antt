@@ -1,6 +1,7 @@
 pub mod Added
 pub mod Channel
 pub mod Earliest
+pub mod Known
 pub mod Label
 pub mod Left
 pub mod Merged

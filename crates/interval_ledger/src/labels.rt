@@ -28,6 +28,7 @@ pub(crate) struct Labels {
     pub(crate) recording: Snapshot<Recording>,
     ghost numbered: { numbers.items ≡ recording.value.numbers },
     ghost long: { cycles ≡ cycles_of recording.value.lf },
+    ghost few: { length recording.value.numbers ≤ 16 },
 }
 
 impl Labels {
@@ -48,7 +49,8 @@ impl Labels {
 
     // How many channels there are.
     pub(crate) fn channels(&self) -> usize
-        ensures { result ≡ length self.now.recording.value.numbers }
+        ensures value { result ≡ length self.now.recording.value.numbers }
+        ensures few { result ≤ 16 }
     {
         self.numbers.len()
     }

@@ -6,6 +6,7 @@ pub use steps::Steps;
 
 mod channel;
 mod first_start;
+mod known;
 mod labels;
 mod length;
 mod next_due;
