@@ -18,3 +18,4 @@ pub mod EarliestLaws
 pub mod FlagLaws
 pub mod HeadLaws
 pub mod FeedLaws
+pub mod NeedLaws
