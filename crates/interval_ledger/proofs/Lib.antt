@@ -13,3 +13,10 @@ pub mod StepLaws
 pub mod FinishLaws
 pub mod OpenLaws
 pub mod FedLaws
+pub mod MergeLaws
+pub mod StopLaws
+pub mod EarliestLaws
+pub mod FlagLaws
+pub mod HeadLaws
+pub mod FeedLaws
+pub mod NeedLaws

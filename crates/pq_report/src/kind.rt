@@ -138,7 +138,8 @@ impl ItemKind {
         )
     }
 
-    fn is_event(self) -> bool
+    // Whether it is a kind of events; the others are kinds of records.
+    pub(crate) fn is_event(self) -> bool
         ensures { result ≡ is_event self }
     {
         matches!(

@@ -21,7 +21,7 @@ struct Tally {
 /// and ends fold to, for a recording that is made from a seed and has so many samples.
 #[tactic(auto, unfolding(crate::specs::Summary::summary_text))]
 pub fn summary(alloc: Global, seed: u64, samples: u64, items: &[Item]) -> Result<Text, OutOfMemory>
-    ensures value { IfOk result (λ text. text ≡ summary_text seed samples items.now) }
+    ensures value { IfOk result (λ t. t ≡ summary_text seed samples items.now) }
 {
     let tally = Tally::of(items);
     let mut text = Vec::new(alloc);

@@ -1,6 +1,7 @@
 // The item of a row, by its ten fields.
-ghost use Rattle.std.specs.Prelude.{◌≡◌, ◌≤◌, IfSome};
+ghost use Rattle.std.specs.Prelude.{◌≡◌, ◌≤◌, ℕ, true, false, ℤ, Option, Some, IfSome};
 ghost use Rattle.pq_report.specs.ReportReading.{field_list, fields_read, is_channel_of, is_count_of, is_place, item_behind, item_with, number_read, passing, span_of, tick_read};
+ghost use Rattle.pq_report.specs.ReportText.{is_event};
 ghost use Rattle.pq_time.specs.Time.{IsClock};
 
 use crate::cutting::RowFields;
@@ -114,13 +115,23 @@ fn read_tick(kind: ItemKind, field: &[u8]) -> Option<Option<i64>>
 fn item_with(span: RowSpan, tick: Option<i64>, value: u64, count: u64, mark: bool) -> Item
     ensures { result ≡ item_with span tick value count mark }
 {
+    if span.kind.is_event() {
+        return event_with(span, value, mark);
+    }
+    record_with(span, tick.unwrap_or(0), value, count, mark)
+}
+
+// The record of these values.
+fn record_with(span: RowSpan, tick: i64, value: u64, count: u64, flagged: bool) -> Item
+    requires { is_event span.kind ≡ false }
+    ensures { result ≡ item_with span (Some tick) value count flagged }
+{
     let RowSpan {
         kind,
         channel,
         start,
         end,
     } = span;
-    let tick = tick.unwrap_or(0);
     match kind {
         ItemKind::Frequency => Item::Frequency {
             tick,
@@ -128,7 +139,7 @@ fn item_with(span: RowSpan, tick: Option<i64>, value: u64, count: u64, mark: boo
             end,
             cycles: count,
             microhertz: value,
-            flagged: mark,
+            flagged,
         },
         ItemKind::Basic => Item::Basic {
             channel,
@@ -136,14 +147,14 @@ fn item_with(span: RowSpan, tick: Option<i64>, value: u64, count: u64, mark: boo
             end,
             cycles: count,
             value,
-            flagged: mark,
+            flagged,
         },
         ItemKind::Short => Item::Short {
             channel,
             start,
             end,
             value,
-            flagged: mark,
+            flagged,
         },
         ItemKind::Ten => Item::Ten {
             channel,
@@ -152,36 +163,51 @@ fn item_with(span: RowSpan, tick: Option<i64>, value: u64, count: u64, mark: boo
             end,
             basics: count,
             value,
-            flagged: mark,
+            flagged,
         },
-        ItemKind::TwoHour => Item::TwoHour {
+        _ => Item::TwoHour {
             channel,
             tick,
             start,
             end,
             value,
-            flagged: mark,
+            flagged,
         },
+    }
+}
+
+// The event of these values.
+fn event_with(span: RowSpan, value: u64, is_open: bool) -> Item
+    requires { is_event span.kind ≡ true }
+    ensures { (tick : Option ℤ) (count : ℕ) → result ≡ item_with span tick value count is_open }
+{
+    let RowSpan {
+        kind,
+        channel,
+        start,
+        end,
+    } = span;
+    match kind {
         ItemKind::Dip => Item::Dip {
             channel,
             start,
             end,
             value,
-            is_open: mark,
+            is_open,
         },
         ItemKind::Swell => Item::Swell {
             channel,
             start,
             end,
             value,
-            is_open: mark,
+            is_open,
         },
-        ItemKind::Interruption => Item::Interruption {
+        _ => Item::Interruption {
             channel,
             start,
             end,
             value,
-            is_open: mark,
+            is_open,
         },
     }
 }
