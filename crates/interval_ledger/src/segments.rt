@@ -42,23 +42,27 @@ impl Segments {
 
     // Whether the next basic interval begins a segment, by its start.
     pub(crate) fn begins(&mut self, start: u64) -> bool
-        requires { IfSome self.old.before (λ b. b ≤ start) }
         ensures value { result ≡ is_first_of_segment self.old.places self.old.before start }
-        ensures seen { self.new ≡ record self.old { before = Some start } }
+        ensures same { self.new ≡ self.old }
     {
-        let begins = begins_at(&self.places, &mut self.passed, self.before, start);
+        begins_at(&self.places, &mut self.passed, self.before, start)
+    }
+
+    // Goes on past it.
+    pub(crate) fn pass(&mut self, start: u64)
+        requires { IfSome self.old.before (λ b. b ≤ start) }
+        ensures { self.new ≡ record self.old { before = Some start } }
+    {
         self.before = Some(start);
-        begins
     }
 }
 
-// Whether a basic interval begins a segment, by its start and that of the one before it. The places that are
-// passed then are those that do not lie after its start, or fewer.
+// Whether a basic interval begins a segment, by its start and that of the one before it. So many places are
+// passed then that all others lie after the one before it.
 fn begins_at(places: &[u64], passed: &mut usize, before: Option<u64>, start: u64) -> bool
-    requires passed { ArePassed places.now before passed.old }
-    requires follows { IfSome before (λ b. b ≤ start) }
+    requires { ArePassed places.now before passed.old }
     ensures value { result ≡ is_first_of_segment places.now before start }
-    ensures passed { ArePassed places.now (Some start) passed.new }
+    ensures passed { ArePassed places.now before passed.new }
 {
     match before {
         Some(before) => {

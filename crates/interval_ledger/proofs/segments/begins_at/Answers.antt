@@ -9,6 +9,6 @@ returns-in-Some-clause-value c =
     let places = c.args.places.now in
     let said = c.passed_by.ensures in
     c.is_by.ensures
-    ∙ sym (told_by_first c.in-Some.before c.args.start c.passed_by.result places c.requires.passed.rising
+    ∙ sym (told_by_first c.in-Some.before c.args.start c.passed_by.result places c.requires.rising
     said.earlier said.later)
     ∙ ap (λ before. is_first_of_segment places before c.args.start) (sym c.in-Some.is)
