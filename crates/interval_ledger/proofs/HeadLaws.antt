@@ -18,12 +18,12 @@ use Rattle.settled_laws.proofs.BuildLaws.{bare_of, dressed}
 use Rattle.ten_twelve.specs.declared.span.Span.{Span}
 
 -- the parts of a posted value
-posted_start : LaneItem → ℕ
+unfoldable pub posted_start : LaneItem → ℕ
 posted_start (item.Value start end value) = start
 posted_start (item.Window w) = 0
 posted_start (item.Reading reading) = 0
 
-posted_end : LaneItem → ℕ
+unfoldable pub posted_end : LaneItem → ℕ
 posted_end (item.Value start end value) = end
 posted_end (item.Window w) = 0
 posted_end (item.Reading reading) = 0
@@ -33,7 +33,7 @@ posted_value (item.Value start end value) = value
 posted_value (item.Window w) = 0
 posted_value (item.Reading reading) = 0
 
-get_mapped : {X Y : Type 0} (f : X → Y) (k : ℕ) (xs : List X) →
+pub get_mapped : {X Y : Type 0} (f : X → Y) (k : ℕ) (xs : List X) →
     slice_get (map f xs) k ≡ option_map f (slice_get xs k)
 get_mapped f zero [] = refl
 get_mapped f (suc k) [] = refl

@@ -20,3 +20,4 @@ pub mod FlagLaws
 pub mod HeadLaws
 pub mod FeedLaws
 pub mod NeedLaws
+pub mod PostedLaws

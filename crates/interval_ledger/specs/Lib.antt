@@ -10,3 +10,4 @@ pub mod Outbox
 pub mod Queue
 pub mod Segment
 pub mod Watch
+pub mod Posted
