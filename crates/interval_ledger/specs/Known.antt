@@ -34,6 +34,17 @@ pub record IsKnown (k : KnownView) (m : Merged) (near mark : ℕ) : Type 0 where
   pub grouping : HasSettingOfBasics k.aggregator (clock_of k.recording) (sample_count k.recording)
       (channel_count k.recording)
 
+-- nothing is merged, released or pending
+pub record IsOpened (r : Recorded) (limits : Limits) (k : KnownView) : Type 0 where
+  pub recording_is : k.recording ≡ r
+  pub limits_are : k.limits ≡ limits
+  pub seen : HasSeen k.watch []
+  pub watching : HasSetting k.watch (channel_count r) limits
+  pub fed : HasSeenBasics k.aggregator []
+  pub grouping : HasSettingOfBasics k.aggregator (clock_of r) (sample_count r) (channel_count r)
+  pub none_released : k.outbox.released ≡ []
+  pub none_pending : k.outbox.pending ≡ []
+
 -- nothing changed but how much room there is
 pub record KeepsKnown (old new : KnownView) : Type 0 where
   pub recording_same : new.recording ≡ old.recording

@@ -1,8 +1,10 @@
 // What is known of the result.
-ghost use Rattle.std.specs.Prelude.{◌≡◌, ◌+◌, ◌<◌, ◌≤◌, length, OnOk, OnErr};
+ghost use Rattle.std.specs.Prelude.{◌≡◌, ◌+◌, ◌<◌, ◌≤◌, length, slice_get, IfOk, OnOk, OnErr};
 ghost use Rattle.aggregate.specs.Aggregator.{MayFollow};
 ghost use Rattle.aggregate.specs.BasicOrder.{basic_of};
-ghost use Rattle.interval_ledger.specs.Known.{AddsBasic, AddsReading, AddsWindow, Ends, KeepsKnown, KeepsName, MovesMark};
+ghost use Rattle.interval_ledger.specs.Known.{AddsBasic, AddsReading, AddsWindow, Ends, IsOpened, KeepsKnown, KeepsName, MovesMark};
+ghost use Rattle.event_detect.specs.Threshold.{IsInOrder};
+ghost use Rattle.interval_ledger.specs.Watch.{TellsTouch};
 ghost use Rattle.polyphase.specs.Poly.{channel_window};
 ghost use Rattle.pq_base.specs.Recorded.{sample_count};
 
@@ -13,7 +15,10 @@ use crate::watch::Watch;
 use aggregate::Aggregator;
 use event_detect::{Limits, Window};
 use freq10s::Reading;
-use std::alloc::AllocError;
+use pq_base::Recording;
+use pq_items::Item;
+use pq_sequence::clock_of;
+use std::alloc::{AllocError, Global};
 use std::marker::Model;
 use std::sync::ledger::Ledger;
 use ten_twelve::Span;
@@ -48,6 +53,47 @@ impl Model for Known {
 }
 
 impl Known {
+    // Nothing is merged, and nothing is known.
+    pub(crate) fn open(
+        alloc: Global,
+        recording: &Recording,
+        limits: &Limits,
+    ) -> Result<Known, AllocError>
+        requires { IsInOrder limits.now }
+        ensures { IfOk result (IsOpened recording.now limits.now) }
+    {
+        let labels = Labels::of(alloc, recording)?;
+        let channels = recording.channels();
+        Ok(Known {
+            labels,
+            limits: *limits,
+            watch: Watch::new(channels, *limits),
+            aggregator: Aggregator::new(clock_of(recording), recording.len(), channels),
+            outbox: Outbox::new(alloc),
+        })
+    }
+
+    // Whether an event touches a span from this place to one after the start of each window so far.
+    pub(crate) fn touches(&self, start: u64) -> bool
+        ensures { TellsTouch self.now.watch start result }
+    {
+        self.watch.touches(start)
+    }
+
+    // How many items are released.
+    pub(crate) fn released(&self) -> usize
+        ensures { result ≡ length self.now.outbox.released }
+    {
+        self.outbox.released()
+    }
+
+    // The released item at a place from 0, if there is one.
+    pub(crate) fn item(&self, k: usize) -> Option<Item>
+        ensures { result ≡ slice_get self.now.outbox.released k }
+    {
+        self.outbox.item(k)
+    }
+
     // Merges the next of the merged windows.
     pub(crate) fn add_window(&mut self, position: u32, window: Window) -> Result<(), AllocError>
         requires { position < self.old.watch.poly.channels }

@@ -12,6 +12,7 @@ mod length;
 mod next_due;
 mod outbox;
 mod queue;
+mod roots;
 mod segments;
 mod steps;
 mod tick_places;

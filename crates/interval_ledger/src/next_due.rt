@@ -1,5 +1,6 @@
 // What is merged next of basic intervals and frequency readings.
 ghost use Rattle.std.specs.Prelude.{◌≡◌, ◌<◌, ◌≤◌, length, IfSome, IfNone};
+ghost use Rattle.interval_ledger.specs.Posted.{due_end};
 ghost use Rattle.interval_ledger.specs.NextDue.{HasAll, IsNextDue, LacksOne};
 
 use crate::channel::{Channel, SpanValue};
@@ -36,6 +37,17 @@ pub(crate) fn next_due(
         (Some(basic), None) => basic_by(basic, w),
         (None, Some(reading)) => reading_by(reading, w),
         (None, None) => None,
+    }
+}
+
+/// Where it ends, or a place where nothing is due.
+pub(crate) fn due_end(due: Option<Due>, w: u64) -> u64
+    ensures { result ≡ due_end w due }
+{
+    match due {
+        Some(Due::Basic(first)) => first.end,
+        Some(Due::Reading(reading)) => reading.end,
+        None => w,
     }
 }
 

@@ -1,0 +1,33 @@
+// The values of a basic interval.
+ghost use Rattle.std.specs.Prelude.{◌≡◌, ◌≤◌, length, map, slice_get, take};
+ghost use Rattle.std.specs.Option.{option_map_or};
+ghost use Rattle.interval_ledger.specs.Posted.{root_at};
+ghost use Rattle.pq_words.specs.Steps.{numbers_below};
+
+use crate::channel::Channel;
+
+// Room for the values of the most channels.
+const SLOTS: usize = 16;
+
+/// What each channel has posted at an index, by position, and 0 past the channels.
+pub(crate) fn roots(channels: &[Channel], k: usize) -> [u64; SLOTS]
+    requires { length channels.now ≤ 16 }
+    ensures { take (length channels.now) result
+        ≡ map (root_at channels.now k) (numbers_below (length channels.now)) }
+{
+    let mut roots = [0; SLOTS];
+    for (position, channel) in channels.iter().enumerate() {
+        roots[position] = root(channel, k);
+    }
+    roots
+}
+
+// What a channel has posted at an index, or 0.
+fn root(channel: &Channel, k: usize) -> u64
+    ensures { result ≡ option_map_or (λ v. v.value) (slice_get channel.now.values.items k) 0 }
+{
+    match channel.value(k) {
+        Some(value) => value.value,
+        None => 0,
+    }
+}
