@@ -1,3 +1,4 @@
 pub mod Cycles
 pub mod GeneratedRecording
+pub mod MeasuredRecording
 pub mod RecordingLaws

@@ -25,9 +25,15 @@ pub(crate) fn channel_counts(disturbance: Option<Disturbance>, cycle: u32, count
 }
 
 // The same on one channel.
-fn channel_count(disturbance: Option<Disturbance>, channel: u32, cycle: u32, count: i16) -> i16
+pub(crate) fn channel_count(
+    disturbance: Option<Disturbance>,
+    channel: u32,
+    cycle: u32,
+    count: i16,
+) -> i16
     requires { IsWithin 10000 count }
-    ensures { result ≡ count_in_cycle disturbance cycle count channel }
+    ensures value { result ≡ count_in_cycle disturbance cycle count channel }
+    ensures within { IsWithin 12000 result }
 {
     match disturbance {
         Some(disturbance) if disturbance.lies_on(channel, cycle) => disturbance.changed(count),

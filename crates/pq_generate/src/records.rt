@@ -8,7 +8,7 @@ use crate::disturbance::{CYCLES_OF_INDEX, DISTURBANCES, Disturbance, next_number
 use std::alloc::{AllocError, Global};
 
 // How many cycles a recording has.
-const CYCLES: u32 = 30_100;
+pub(crate) const CYCLES: u32 = 30_100;
 
 const SAMPLES_OF_CYCLE: u32 = 24;
 

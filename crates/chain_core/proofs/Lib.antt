@@ -1,0 +1,10 @@
+pub mod ChangedLaws
+pub mod CutLaws
+pub mod GivenLaws
+pub mod LeastLaws
+pub mod PlayLaws
+pub mod ReadLaws
+pub mod SoundLaws
+mod StandardFacts
+pub mod StepLaws
+pub mod TakeLaws

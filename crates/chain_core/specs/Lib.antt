@@ -1,0 +1,7 @@
+pub mod Changed
+pub mod Core
+pub mod GivenItems
+pub mod Measurement
+pub mod Phases
+pub mod Play
+pub mod SoundCore

@@ -1,0 +1,24 @@
+//! The pure machine of lanes and sessions over lists of steps.
+#![tactic(auto)]
+
+pub use answer::{Answer, PlayFault};
+pub use core_event::CoreEvent;
+pub use laws::{cores_are_sound, reads_are_right, sessions_are_given_the_result};
+pub use limits::MOST_SESSIONS;
+pub use measurement::{LaneKeys, Measurement};
+pub use phase::{LanePhase, SessionPhase};
+pub use phase_table::PhaseTable;
+pub use play::play_over;
+pub use step::Step;
+
+mod answer;
+mod core_event;
+mod laws;
+mod limits;
+mod machine;
+mod measurement;
+mod numbers;
+mod phase;
+mod phase_table;
+mod play;
+mod step;

@@ -1,0 +1,2 @@
+pub mod CfgLaws
+pub mod DatLaws
