@@ -21,3 +21,5 @@ pub mod HeadLaws
 pub mod FeedLaws
 pub mod NeedLaws
 pub mod PostedLaws
+pub mod MergingLaws
+pub mod ReadingLaws
