@@ -24,9 +24,11 @@ line_at : (items : List Item) (t : Tally) (rank : ℕ) → rank < 8 → t ≡ ta
 line_at items t rank inside is =
     let k : ItemKind = get_or kinds rank kind.Frequency in
     let number : get_or t.numbers rank 0 ≡ number_of items k =
-    ap (λ (t : Tally). get_or t.numbers rank 0) is ∙ get_or-map (number_of items) kinds rank kind.Frequency 0 inside in
+    ap (λ (t : Tally). get_or t.numbers rank 0) is
+    ∙ get_or-map (number_of items) kinds rank kind.Frequency 0 inside in
     let marked : get_or t.marked rank 0 ≡ marked_of items k =
-    ap (λ (t : Tally). get_or t.marked rank 0) is ∙ get_or-map (marked_of items) kinds rank kind.Frequency 0 inside in
+    ap (λ (t : Tally). get_or t.marked rank 0) is
+    ∙ get_or-map (marked_of items) kinds rank kind.Frequency 0 inside in
     ap (λ n. kind_words k n (get_or t.marked rank 0)) number ∙ ap (kind_words k (number_of items k)) marked
 
 -- a text, and the lines of the kinds up to a rank
@@ -45,7 +47,8 @@ lines_next front old new items t rank inside is so_far by =
     ∙ ap (λ line. lines_to front items rank ++ line_of line) (line_at items t rank inside is) in
     here ∙ append_assoc front (flat_map line_of before) (line_of (kind_line items k))
     ∙ ap (λ text. front ++ text) (sym (lines_push before (kind_line items k)))
-    ∙ ap (λ lines. front ++ flat_map line_of lines) (sym (map_more (kind_line items) kinds rank kind.Frequency inside))
+    ∙ ap (λ lines. front ++ flat_map line_of lines)
+    (sym (map_more (kind_line items) kinds rank kind.Frequency inside))
 
 -- the first two lines
 abbrev pub front_of : ℕ → ℕ → Text

@@ -49,10 +49,12 @@ one_more : (m : List Item → ℕ) → AddsUp m → ((n : ℕ) → n + m [] ≡ 
 one_more m adds none items index d inside =
     let before : List Item = take index items in
     let i : Item = get_or items index d in
-    let each : (k : ItemKind) → m (of_kind k (before ++ i ∷ [])) ≡ m (of_kind k before) + m (of_kind k (i ∷ [])) =
+    let each : (k : ItemKind) → m (of_kind k (before ++ i ∷ []))
+    ≡ m (of_kind k before) + m (of_kind k (i ∷ [])) =
     (λ k. ap m (filter-append _ before (i ∷ [])) ∙ adds (of_kind k before) (of_kind k (i ∷ []))) in
     ap (by_kind m) (take_more items index d inside)
-    ∙ map_same (λ k. m (of_kind k (before ++ i ∷ []))) (λ k. m (of_kind k before) + m (of_kind k (i ∷ []))) each kinds
+    ∙ map_same (λ k. m (of_kind k (before ++ i ∷ [])))
+    (λ k. m (of_kind k before) + m (of_kind k (i ∷ []))) each kinds
     ∙ one_of m none (λ k. m (of_kind k before)) i
 
 -- ---- numbers of items, and how many of these are marked
@@ -111,17 +113,20 @@ few_marked items i =
 
 -- ---- one step of the loop
 
-pub number_small : (items : List Item) (index : ℕ) (ns : List ℕ) (rank : ℕ) (i : Item) → index < length items →
+pub number_small : (items : List Item) (index : ℕ) (ns : List ℕ) (rank : ℕ) (i : Item) →
+    index < length items →
     ns ≡ map (number_of (take index items)) kinds → rank ≡ rank_of i → get_or ns rank 0 ≤ index
 number_small items index ns rank i inside is at =
     rw (is, at) (le_trans (few_numbers (take index items) i) (few_before items index inside))
 
-pub marked_small : (items : List Item) (index : ℕ) (ns : List ℕ) (rank : ℕ) (i : Item) → index < length items →
+pub marked_small : (items : List Item) (index : ℕ) (ns : List ℕ) (rank : ℕ) (i : Item) →
+    index < length items →
     ns ≡ map (marked_of (take index items)) kinds → rank ≡ rank_of i → get_or ns rank 0 ≤ index
 marked_small items index ns rank i inside is at =
     rw (is, at) (le_trans (few_marked (take index items) i) (few_before items index inside))
 
-pub numbers_next : (items : List Item) (index : ℕ) (ns : List ℕ) (rank : ℕ) (d : Item) → index < length items →
+pub numbers_next : (items : List Item) (index : ℕ) (ns : List ℕ) (rank : ℕ) (d : Item) →
+    index < length items →
     ns ≡ map (number_of (take index items)) kinds → rank ≡ rank_of (get_or items index d) →
     set ns rank (get_or ns rank 0 + 1) ≡ map (number_of (take (index + 1) items)) kinds
 numbers_next items index ns rank d inside is at =

@@ -30,6 +30,7 @@ loop-item-preserved c = record {
   numbers = numbers_next c.args.items.now c.loop-item.item-index c.loop-item.numbers c.rank_of-rank.result _
       c.loop-item-test.true c.loop-item.invariant.numbers c.rank_of-rank.ensures;
   marked = marked_next c.args.items.now c.loop-item.item-index c.loop-item.marked c.rank_of-rank.result _ _ _
-      c.loop-item-test.true c.loop-item.invariant.marked c.rank_of-rank.ensures c.from.ensures c.has_mark.ensures;
+      c.loop-item-test.true c.loop-item.invariant.marked c.rank_of-rank.ensures c.from.ensures
+      c.has_mark.ensures;
   fold = grind (arith, fold_more, c.fold_with-fold.ensures, c.loop-item.invariant.fold);
 }
