@@ -41,6 +41,16 @@ abbrev pub thousandths_or : ℕ → Option Text → Result ℕ WordsFault
 thousandths_or usual None = Ok usual
 thousandths_or usual (Some text) = number_between 4 0 MOST_THOUSANDTHS text
 
+-- the settings of a declared voltage in millivolts where no other option is given
+abbrev pub usual_settings : ℕ → Settings
+usual_settings udin_mv = record {
+  udin_mv = udin_mv;
+  dip = USUAL_DIP;
+  swell = USUAL_SWELL;
+  interruption = USUAL_INTERRUPTION;
+  hysteresis = USUAL_HYSTERESIS;
+}
+
 -- the number of a channel: one to three digits, from 1 to 999
 abbrev pub channel_of : Text → Result ℕ WordsFault
 channel_of text = number_between 3 1 MOST_CHANNEL text

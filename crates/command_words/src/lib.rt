@@ -3,6 +3,7 @@
 
 pub use command::{Command, Measuring, Part, WordsFault};
 pub use reading::read_words;
+pub use thresholds::usual_settings;
 
 mod channels;
 mod command;

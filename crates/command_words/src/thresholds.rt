@@ -1,9 +1,10 @@
 // The settings: the declared voltage, and the thresholds and the hysteresis in thousandths of it.
 ghost use Rattle.std.specs.Prelude.{◌≡◌, ◌≤◌, IfOk, option_map};
 ghost use Rattle.clap.specs.Words.{found_of, rows_of};
-ghost use Rattle.command_words.specs.Values.{settings_of, thousandths_or};
+ghost use Rattle.command_words.specs.Values.{IsBetween, settings_of, thousandths_or, usual_settings};
 ghost use Rattle.command_words.specs.declared.command.WordsFault.TheVariants as fault;
 ghost use Rattle.event_detect.specs.Threshold.{IsInRange};
+ghost use Rattle.event_detect.specs.declared.limits.TheConstants.{MOST_UDIN};
 ghost use Rattle.pq_words.specs.FirstFault.{GivesUnless};
 
 use crate::command::WordsFault;
@@ -20,6 +21,21 @@ pub(crate) const USUAL_SWELL: u32 = 1100;
 pub(crate) const USUAL_INTERRUPTION: u32 = 50;
 
 pub(crate) const USUAL_HYSTERESIS: u32 = 20;
+
+/// The settings of a declared voltage where no other option is given.
+pub fn usual_settings(udin_mv: u64) -> Settings
+    requires { IsBetween 1 MOST_UDIN udin_mv }
+    ensures value { result ≡ usual_settings udin_mv }
+    ensures within { IsInRange result }
+{
+    Settings {
+        udin_mv,
+        dip: USUAL_DIP,
+        swell: USUAL_SWELL,
+        interruption: USUAL_INTERRUPTION,
+        hysteresis: USUAL_HYSTERESIS,
+    }
+}
 
 /// The settings that the options say.
 #[tactic(auto, unfolding(crate::specs::Values::settings_of))]

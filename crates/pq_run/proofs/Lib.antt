@@ -1,3 +1,4 @@
+pub mod GeneratingLemmas
 pub mod MeasuringLemmas
 pub mod SelectionLemmas
 mod StandardFacts

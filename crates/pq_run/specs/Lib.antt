@@ -1,6 +1,7 @@
 pub mod Check
 pub mod Commands
 pub mod Emitting
+pub mod Generating
 pub mod Measuring
 pub mod Program
 pub mod SettingsLimits

@@ -9,6 +9,7 @@ pub use top_call::{analyse, still};
 
 mod check;
 mod emitting;
+mod generating;
 mod measuring;
 mod program;
 mod selected_cfg;

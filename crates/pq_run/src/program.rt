@@ -55,7 +55,7 @@ fn is_for_analyse(words: &[String]) -> bool
     ensures { result ≡ is_for_analyse (words_view words.now) }
 {
     match words.first() {
-        Some(word) => word.as_str() == "analyse",
+        Some(word) => word.as_str() == "analyse" || word.as_str() == "generate",
         None => false,
     }
 }

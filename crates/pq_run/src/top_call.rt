@@ -5,6 +5,7 @@ ghost use Rattle.pq_run.specs.Commands.{analyse_course, still_course};
 
 use crate::check::check;
 use crate::emitting::emitted_text;
+use crate::generating::generated_summary;
 use crate::measuring::measured_report;
 use command_words::{Command, WordsFault, read_words};
 use lane_workers::Gate;
@@ -15,7 +16,7 @@ use std::alloc::Global;
 use std::sync::Wait;
 use std::thread::Threads;
 
-/// Runs the command `analyse` that the words say. It may wait; the gate isn't called.
+/// Runs the command `analyse` or `generate` that the words say. It may wait; the gate isn't called.
 ///
 /// `explained`: Done only where the verdict on the words and the told files is a job, and its text was taken;
 /// a refusal only where it is the verdict, and nothing was taken; a fault of the shelf or the sink only where
@@ -61,10 +62,10 @@ fn analysed_text<K: Shelf>(alloc: Global, words: &[String], shelf: &mut K) -> Re
 {
     match read_words(alloc, words) {
         Ok(Command::Analyse(measuring)) => measured_report(alloc, &measuring, shelf),
+        Ok(Command::Generate { seed }) => generated_summary(alloc, seed),
         Ok(Command::Check { .. }) => Err(Status::Usage),
         Ok(Command::Intervals(_)) => Err(Status::Usage),
         Ok(Command::Emit { .. }) => Err(Status::Usage),
-        Ok(Command::Generate { .. }) => Err(Status::Usage),
         Err(WordsFault::NotUnderstood) => Err(Status::Usage),
         Err(WordsFault::OutOfMemory) => Err(Status::OutOfMemory),
     }
