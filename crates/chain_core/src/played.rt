@@ -1,11 +1,16 @@
 // A list of steps, played from the start.
 ghost use Rattle.std.specs.Prelude.{◌≡◌, ◌<◌, ◌^◌, length};
+ghost use Rattle.event_detect.specs.Threshold.{IsInOrder};
+ghost use Rattle.chain_core.specs.MeasuredOf.{measured_of};
 ghost use Rattle.chain_core.specs.Play.{Gives, answers_of};
 
 use crate::answer::{Answer, PlayFault};
 use crate::machine::Machine;
+use crate::measured::measure;
 use crate::measurement::Measurement;
 use crate::step::Step;
+use event_detect::Limits;
+use pq_base::Recording;
 use std::alloc::{AllocError, AllocFailed, Global};
 
 impl From<AllocError> for PlayFault {
@@ -52,4 +57,26 @@ pub fn play_over(
         }
     }
     Ok(answers)
+}
+
+/// The answers of steps over what is measured of a recording under the limits, or the first step that
+/// the phases don't allow.
+///
+/// # Errors
+///
+/// [`PlayFault::NotAllowed`] with the index of that step, [`PlayFault::OutOfMemory`] where memory is short.
+#[tactic(auto, using(crate::proofs::LaneLemmas::few_lanes))]
+pub fn play(
+    alloc: Global,
+    recording: &Recording,
+    limits: &Limits,
+    steps: &[Step],
+) -> Result<Vec<Answer>, PlayFault>
+    requires { IsInOrder limits.now }
+    ensures { Gives result (answers_of (measured_of recording.now limits.now) steps.now) }
+{
+    match measure(alloc, recording, limits) {
+        Ok(measurement) => play_over(alloc, &measurement, steps),
+        Err(_) => Err(PlayFault::OutOfMemory),
+    }
 }

@@ -2,7 +2,7 @@ use Rattle.std.proofs.Common.{◌≡◌, drop, length}
 use Rattle.chain_core.specs.Core.{start_core}
 use Rattle.chain_core.specs.Play.{answers_from}
 use Rattle.chain_core.proofs.PlayLaws.{before}
-use Rattle.chain_core.proofs.play.play_over.Given as goal
+use Rattle.chain_core.proofs.played.play_over.Given as goal
 
 -- the answers so far, and those of the steps that are left, are all
 abbrev pub invariant-loop-index : goal.invariant-loop-index

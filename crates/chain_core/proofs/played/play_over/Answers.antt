@@ -3,7 +3,7 @@ use Rattle.std.proofs.lemmas.Grind.{common_steps}
 use Rattle.chain_core.specs.declared.step.Step.TheVariants as step
 use Rattle.chain_core.specs.Play.{Did, answers_from, answers_of, takes}
 use Rattle.chain_core.proofs.PlayLaws.{before, ends_here, one_more, stops_here}
-use Rattle.chain_core.proofs.play.play_over.Goals as goal
+use Rattle.chain_core.proofs.played.play_over.Goals as goal
 
 -- a step more, with its answer
 pub loop-index-preserved : goal.loop-index-preserved
