@@ -1,0 +1,6 @@
+//! Laws of the core machine, of every recording.
+#![tactic(auto)]
+
+pub use laws::recordings_are_measured;
+
+mod laws;

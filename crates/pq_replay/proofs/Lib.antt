@@ -1,0 +1,4 @@
+mod CuttingLemmas
+mod PassingLaws
+mod ReadingLaws
+mod StandardFacts

@@ -1,0 +1,2 @@
+pub mod LineGrammar
+pub mod Schedule
