@@ -1,4 +1,4 @@
-//! Schedules: lines that drive lanes and sessions step by step, and the text of their answers.
+//! Schedules: lines that drive lanes and sessions step by step.
 #![tactic(auto)]
 
 pub use fault::ScheduleFault;
@@ -13,3 +13,5 @@ mod line_steps;
 mod line_words;
 mod passing;
 mod reading;
+#[cfg(test)]
+mod tests;
