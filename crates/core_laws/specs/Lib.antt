@@ -1,1 +1,2 @@
+pub mod OwnLoad
 pub mod RecordedCore

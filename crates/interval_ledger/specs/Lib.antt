@@ -1,5 +1,6 @@
 pub mod Added
 pub mod Channel
+pub mod Count
 pub mod Earliest
 pub mod Known
 pub mod Label

@@ -11,6 +11,7 @@ mod labels;
 mod length;
 mod next_due;
 mod outbox;
+mod posting;
 mod queue;
 mod roots;
 mod segments;

@@ -1,0 +1,46 @@
+// Posting: which queue an item goes to.
+ghost use Rattle.std.specs.Prelude.{◌≡◌, ◌<◌, Some, length, slice_get};
+ghost use Rattle.interval_ledger.specs.Channel.{ChannelView, with_value, with_window};
+ghost use Rattle.interval_ledger.specs.Count.{HasPlace, PutsItem, SetsChannel};
+
+use crate::channel::{Channel, SpanValue};
+use crate::queue::Queue;
+use event_detect::Window;
+use freq10s::Reading;
+use lanes::LaneItem;
+
+/// Puts an item of a lane into its queue: a value or a window into those of its channel, which has two lanes.
+pub(crate) fn post(
+    channels: &mut [Channel],
+    readings: &mut Queue<Reading>,
+    lane: u32,
+    item: LaneItem,
+)
+    requires { HasPlace channels.old readings.old lane item }
+    ensures { PutsItem lane item channels.old readings.old channels.new readings.new }
+{
+    let position = (lane / 2) as usize;
+    match item {
+        LaneItem::Value { start, end, value } => {
+            post_value(channels, position, SpanValue { start, end, value });
+        }
+        LaneItem::Window(window) => post_window(channels, position, window),
+        LaneItem::Reading(reading) => readings.push(reading),
+    }
+}
+
+fn post_value(channels: &mut [Channel], position: usize, value: SpanValue)
+    requires { (c : ChannelView) × (slice_get channels.old position ≡ Some c)
+        × (length c.values.items < c.values.room) }
+    ensures { SetsChannel channels.old channels.new position (λ c. with_value c value) }
+{
+    channels[position].push_value(value);
+}
+
+fn post_window(channels: &mut [Channel], position: usize, window: Window)
+    requires { (c : ChannelView) × (slice_get channels.old position ≡ Some c)
+        × (length c.windows.items < c.windows.room) }
+    ensures { SetsChannel channels.old channels.new position (λ c. with_window c window) }
+{
+    channels[position].push_window(window);
+}
