@@ -4,3 +4,5 @@
 pub use laws::{recordings_are_measured, withheld_by_own_loads};
 
 mod laws;
+#[cfg(test)]
+mod tests;
