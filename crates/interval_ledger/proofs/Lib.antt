@@ -23,3 +23,4 @@ pub mod NeedLaws
 pub mod PostedLaws
 pub mod MergingLaws
 pub mod ReadingLaws
+pub mod CountLaws

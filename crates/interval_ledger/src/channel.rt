@@ -76,6 +76,19 @@ impl Channel {
         self.values.get(k)
     }
 
+    // How many values were posted, and how many windows.
+    pub(crate) fn values(&self) -> usize
+        ensures { result ≡ length self.now.values.items }
+    {
+        self.values.count()
+    }
+
+    pub(crate) fn windows(&self) -> usize
+        ensures { result ≡ length self.now.windows.items }
+    {
+        self.windows.count()
+    }
+
     // The first window that is not merged, if it was posted.
     pub(crate) fn first_window(&self) -> Option<Window>
         ensures { result ≡ slice_get self.now.windows.items self.now.merged }
