@@ -24,3 +24,5 @@ pub mod PostedLaws
 pub mod MergingLaws
 pub mod ReadingLaws
 pub mod CountLaws
+pub mod KeptLaws
+pub mod StateLaws

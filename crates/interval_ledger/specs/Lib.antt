@@ -12,3 +12,4 @@ pub mod Queue
 pub mod Segment
 pub mod Watch
 pub mod Posted
+pub mod Merging

@@ -9,6 +9,7 @@ mod first_start;
 mod known;
 mod labels;
 mod length;
+mod merging;
 mod next_due;
 mod outbox;
 mod posting;

@@ -1,0 +1,14 @@
+use Rattle.interval_ledger.specs.Merging.{HasPosted, IsMerging, MayMergeUntil, MergesWindows, count_left}
+use Rattle.interval_ledger.proofs.merging.Merging.merge_windows.Given as goal
+
+-- the windows so far are merged
+abbrev pub invariant-loop-position : goal.invariant-loop-position
+invariant-loop-position g l = record {
+  posted : HasPosted l.self;
+  at : IsMerging l.self;
+  until : MayMergeUntil l.self l.until;
+  same : MergesWindows l.fn.self l.self;
+}
+
+abbrev pub decreases-loop-position : goal.decreases-loop-position
+decreases-loop-position g l = count_left l.self
