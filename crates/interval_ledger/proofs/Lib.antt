@@ -26,3 +26,5 @@ pub mod ReadingLaws
 pub mod CountLaws
 pub mod KeptLaws
 pub mod StateLaws
+pub mod BasicStateLaws
+pub mod LedgerLaws

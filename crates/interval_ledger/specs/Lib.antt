@@ -13,3 +13,5 @@ pub mod Segment
 pub mod Watch
 pub mod Posted
 pub mod Merging
+pub mod Settlement
+pub mod IsLedger
