@@ -117,17 +117,17 @@ module _ (r : Recorded) (channels : List ChannelView) (readings : List Reading)
       AreWithinReach r channels readings w
   reaches_back w within = record {
     samplers = λ p c at.
-    let inside : p < channel_count r = let less = slice_get_within channels p c at in
-    omega (arith, less, posted.many) in
-    subst (λ k. w ≤ reach r (2 * p) k) (sampler_count channels readings (2 * p) p c refl at)
-    (within (2 * p) (omega (arith, inside)));
+        let inside : p < channel_count r = let less = slice_get_within channels p c at in
+        omega (arith, less, posted.many) in
+        subst (λ k. w ≤ reach r (2 * p) k) (sampler_count channels readings (2 * p) p c refl at)
+        (within (2 * p) (omega (arith, inside)));
     detectors = λ p c at.
-    let inside : p < channel_count r = let less = slice_get_within channels p c at in
-    omega (arith, less, posted.many) in
-    subst (λ k. w ≤ reach r (2 * p + 1) k) (detector_count channels readings (2 * p + 1) p c refl at)
-    (within (2 * p + 1) (omega (arith, inside)));
+        let inside : p < channel_count r = let less = slice_get_within channels p c at in
+        omega (arith, less, posted.many) in
+        subst (λ k. w ≤ reach r (2 * p + 1) k) (detector_count channels readings (2 * p + 1) p c refl at)
+        (within (2 * p + 1) (omega (arith, inside)));
     frequency = subst (λ k. w ≤ reach r (2 * channel_count r) k) last_count
-    (within (2 * channel_count r) (omega arith));
+        (within (2 * channel_count r) (omega arith));
   }
 
 -- ---- a ledger by its parts
@@ -208,13 +208,13 @@ module _ (r : Recorded) (given : IsRecording r) (mark : ℕ) (next : ℕ → ℕ
     };
     within = record {
       samplers = of_each (λ p c. mark ≤ reach r (2 * p) (length c.values.items)) p new
-      (let before = fine.within.samplers p c at in
-      let rises = reach_rises r given (2 * p) (length c.values.items) (length new.values.items) more_values in
-      omega (arith, before, rises)) fine.within.samplers;
+          (let before = fine.within.samplers p c at in
+          let rises = reach_rises r given (2 * p) (length c.values.items) (length new.values.items) more_values in
+          omega (arith, before, rises)) fine.within.samplers;
       detectors = of_each (λ p c. mark ≤ reach r (2 * p + 1) (length c.windows.items)) p new
-      (let before = fine.within.detectors p c at in
-      let rises = reach_rises r given (2 * p + 1) (length c.windows.items) (length new.windows.items)
-      more_windows in omega (arith, before, rises)) fine.within.detectors;
+          (let before = fine.within.detectors p c at in
+          let rises = reach_rises r given (2 * p + 1) (length c.windows.items) (length new.windows.items)
+          more_windows in omega (arith, before, rises)) fine.within.detectors;
       frequency = fine.within.frequency;
     };
     merged = λ k. merged_kept channels p c new k at same ∙ fine.merged k;
@@ -230,8 +230,8 @@ module _ (r : Recorded) (given : IsRecording r) (mark : ℕ) (next : ℕ → ℕ
       fine_channel p c (with_value c v) at refl
       (record {
         values = subst (λ xs. AreFirst xs (sampler_items r p)) (sym (mapped c.values.items))
-        (first_more (map value_item c.values.items) (sampler_items r p) (value_item v) old.values
-        (ap (slice_get (sampler_items r p)) many ∙ is));
+            (first_more (map value_item c.values.items) (sampler_items r p) (value_item v) old.values
+            (ap (slice_get (sampler_items r p)) many ∙ is));
         windows = old.windows;
       })
       (fine.room.values p c at) (fine.room.windows p c at) (omega (arith, long)) (omega arith)
@@ -271,8 +271,8 @@ module _ (r : Recorded) (given : IsRecording r) (mark : ℕ) (next : ℕ → ℕ
           samplers = fine.within.samplers;
           detectors = fine.within.detectors;
           frequency = let before = fine.within.frequency in
-          let rises = reach_rises r given (2 * channel_count r) (length readings.items)
-          (length (readings.items ++ x ∷ [])) (omega (arith, long)) in omega (arith, before, rises);
+              let rises = reach_rises r given (2 * channel_count r) (length readings.items)
+              (length (readings.items ++ x ∷ [])) (omega (arith, long)) in omega (arith, before, rises);
         };
         merged = fine.merged;
       }
@@ -376,7 +376,7 @@ module _ (s : Merging) (ledger : IsLedger s) (lane : ℕ) (i : LaneItem)
         IsAfterPost s t lane
     after_channel new e same now more = (
       ledger_after (subst (λ cs. IsFine r s.mark (merged_of channels) cs q) (sym e)
-      (subst (λ q. IsFine r s.mark (merged_of channels) new q) (sym same) now)),
+          (subst (λ q. IsFine r s.mark (merged_of channels) new q) (sym same) now)),
       ap (λ cs. counts_of cs q.items) e ∙ ap (λ q. counts_of new q.items) same ∙ more,
     )
 
@@ -413,12 +413,12 @@ module _ (s : Merging) (ledger : IsLedger s) (lane : ℕ) (i : LaneItem)
         let long = length-append readings.items (x ∷ []) in
         let more : length (readings.items ++ x ∷ []) ≡ count + 1 = omega (arith, long, many) in (
           ledger_after (subst (λ cs. IsFine r s.mark (merged_of channels) cs q) (sym puts.0)
-          (subst (λ q. IsFine r s.mark (merged_of channels) channels q) (sym puts.1)
-          (fine_reading r given s.mark (merged_of channels) channels readings fine x
-          (ap (slice_get (recorded_readings r)) (sym many) ∙ got)))),
+              (subst (λ q. IsFine r s.mark (merged_of channels) channels q) (sym puts.1)
+              (fine_reading r given s.mark (merged_of channels) channels readings fine x
+              (ap (slice_get (recorded_readings r)) (sym many) ∙ got)))),
           ap (λ cs. counts_of cs q.items) puts.0 ∙ ap (λ q. counts_of channels q.items) puts.1
-          ∙ frequency_more channels readings.items (readings.items ++ x ∷ []) lane end
-          ∙ ap (slice_set (counts_of channels readings.items) lane) more,
+              ∙ frequency_more channels readings.items (readings.items ++ x ∷ []) lane end
+              ∙ ap (slice_set (counts_of channels readings.items) lane) more,
         ))
         i is
 
@@ -461,15 +461,15 @@ module _ (s t : Merging) (ledger : IsLedger s) (keeps : KeepsPosted s t) where
   room_kept : HasRoom s.known.recording t.channels.items t.readings
   room_kept = record {
     values = λ p c at.
-    let was = same_at (λ c. c.values) t.channels.items s.channels.items p c keeps.values_same at in
-    subst (λ q. length (sampler_items s.known.recording p) ≤ q.room) was.2
-    (ledger.room.values p was.0 was.1);
+        let was = same_at (λ c. c.values) t.channels.items s.channels.items p c keeps.values_same at in
+        subst (λ q. length (sampler_items s.known.recording p) ≤ q.room) was.2
+        (ledger.room.values p was.0 was.1);
     windows = λ p c at.
-    let was = same_at (λ c. c.windows) t.channels.items s.channels.items p c keeps.windows_same at in
-    subst (λ q. length (windows_at s.known.recording p) ≤ q.room) was.2
-    (ledger.room.windows p was.0 was.1);
+        let was = same_at (λ c. c.windows) t.channels.items s.channels.items p c keeps.windows_same at in
+        subst (λ q. length (windows_at s.known.recording p) ≤ q.room) was.2
+        (ledger.room.windows p was.0 was.1);
     frequency = subst (λ q. length (recorded_readings s.known.recording) ≤ q.room)
-    (sym keeps.readings_same) ledger.room.frequency;
+        (sym keeps.readings_same) ledger.room.frequency;
   }
 
   -- where what is released is the cut at a mark within the reaches
