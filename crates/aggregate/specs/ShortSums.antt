@@ -65,6 +65,11 @@ completed_by channels (first ∷ rest) part =
     if first.begins then Some (group_of None channels (map (λ r. r.part) (first ∷ rest) ++ part ∷ []))
     else None
 
+-- the fourteen that are kept and one more complete this interval, or none
+abbrev pub CompletesOver : ℕ → List Recent → Part → Option Group → Type 0
+CompletesOver channels recent part answer =
+    answer ≡ completed_by channels (map (recent_view channels) recent) part
+
 -- the latest after one more
 abbrev pub with_next : List RecentView → RecentView → List RecentView
 with_next recent r = drop 1 recent ++ r ∷ []

@@ -1,10 +1,11 @@
 -- What contracts see of a running sum, over the intervals that were added to it.
-use Rattle.std.specs.Prelude.{◌≡◌, ℕ, ◌*◌, ◌^◌, ◌<◌, ◌≤◌, Bool, List, [], ◌∷◌, ◌++◌, length, sum_by, ℤ, Option, All, slice_index}
+use Rattle.std.specs.Prelude.{◌≡◌, ℕ, ◌*◌, ◌^◌, ◌<◌, ◌≤◌, Bool, List, [], ◌∷◌, ◌++◌, length, sum_by, ℤ, Option, All, slice_index, ◌+◌, ◌/◌, map, nat_lt, if◌then◌else◌}
 use Rattle.std.specs.List.{list_any}
 use Rattle.aggregate.specs.declared.group.Group.{Group}
 use Rattle.aggregate.specs.Aggregation.{Part, first_start, group_of, last_end}
-use Rattle.fixed_rms.specs.Root.{square}
+use Rattle.fixed_rms.specs.Root.{isqrt, square}
 use Rattle.pq_words.specs.declared.limits.TheConstants.{MOST_MICROVOLTS, MOST_SAMPLES}
+use Rattle.pq_words.specs.Steps.{numbers_below}
 use Rattle.ten_twelve.specs.declared.span.Span.{Span}
 
 -- a running sum: the start of the first interval, the end of the last, how many there are, whether one is
@@ -32,6 +33,16 @@ pub record HasSummed (s : SumView) (parts : List Part) : Type 0 where
 abbrev pub part_of : Span → List ℕ → Bool → Part
 part_of span values flagged =
     record { start = span.start; end = span.end; values = values; flagged = flagged }
+
+-- to each channel's sum of squares that of its value is added
+abbrev pub AddsSquares : List ℕ → List ℕ → List ℕ → Type 0
+AddsSquares old new values =
+    (channel : ℕ) → slice_index new channel ≡ slice_index old channel + square (slice_index values channel)
+
+-- the root of the mean of each channel's sum of so many squares, and 0 past the channels
+abbrev pub mean_roots : List ℕ → ℕ → ℕ → List ℕ
+mean_roots squares count channels =
+    map (λ k. if nat_lt k channels then isqrt (slice_index squares k / count) else 0) (numbers_below 16)
 
 -- whatever intervals the sum was of, it is now that of one more
 abbrev pub Adds : SumView → SumView → Part → Type 0

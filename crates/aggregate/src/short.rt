@@ -2,7 +2,7 @@
 ghost use Rattle.std.specs.Prelude.{◌≡◌, ◌∷◌, ◌++◌, ◌≤◌, ◌||◌, [], drop, length, map, not, take};
 ghost use Rattle.std.specs.List.{list_any};
 ghost use Rattle.aggregate.specs.BasicOrder.{AreQuiet, IsChannelCount, basic_of};
-ghost use Rattle.aggregate.specs.ShortSums.{AreRecent, Completes, HasSeen, SeesMore, completed_by, recent_view};
+ghost use Rattle.aggregate.specs.ShortSums.{AreRecent, Completes, HasSeen, SeesMore, completed_by, recent_view, CompletesOver};
 ghost use Rattle.aggregate.specs.Sum.{HasSummed, part_of};
 
 use crate::Group;
@@ -125,8 +125,7 @@ fn completed(
     requires recent { AreRecent channels recent.now }
     requires long { length values.now ≡ channels }
     requires quiet { AreQuiet values.now }
-    ensures { result ≡ completed_by channels (map (recent_view channels) recent.now)
-        (part_of span values.now flagged) }
+    ensures { CompletesOver channels recent.now (part_of span values.now flagged) result }
 {
     if !recent[0].begins {
         return None;

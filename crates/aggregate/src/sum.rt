@@ -1,7 +1,7 @@
 // The running sum of intervals.
 ghost use Rattle.std.specs.Prelude.{◌≡◌, ◌+◌, ◌*◌, ◌/◌, ◌^◌, ◌<◌, ◌≤◌, ℕ, [], length, map, slice_index, All, nat_lt, if◌then◌else◌};
 ghost use Rattle.aggregate.specs.BasicOrder.{AreQuiet, IsChannelCount};
-ghost use Rattle.aggregate.specs.Sum.{Adds, HasSummed, IsGroupOf, part_of};
+ghost use Rattle.aggregate.specs.Sum.{Adds, HasSummed, IsGroupOf, part_of, AddsSquares, mean_roots};
 ghost use Rattle.fixed_rms.specs.Root.{isqrt, square};
 ghost use Rattle.pq_words.specs.Steps.{numbers_below};
 
@@ -95,8 +95,7 @@ fn add_squares(squares: &mut [u128; SLOTS], values: &[u64])
     requires few { length values.now ≤ MOST_SELECTED }
     requires quiet { AreQuiet values.now }
     requires room { All (λ total. total + MOST_MICROVOLTS ^ 2 < 2 ^ 128) squares.old }
-    ensures { (channel : ℕ) → slice_index squares.new channel
-        ≡ slice_index squares.old channel + square (slice_index values.now channel) }
+    ensures { AddsSquares squares.old squares.new values.now }
 {
     for (channel, value) in values.iter().enumerate() {
         squares[channel] += u128::from(*value) * u128::from(*value);
@@ -108,9 +107,7 @@ fn roots(squares: &[u128; SLOTS], count: u64, channels: u32) -> [u64; SLOTS]
     requires some { 1 ≤ count }
     requires channels { IsChannelCount channels }
     requires quiet { All (λ total. total ≤ count * MOST_MICROVOLTS ^ 2) squares.now }
-    ensures value { result ≡ map
-        (λ k. if nat_lt k channels then isqrt (slice_index squares.now k / count) else 0)
-        (numbers_below 16) }
+    ensures value { result ≡ mean_roots squares.now count channels }
     ensures quiet { AreQuiet result }
 {
     let mut values = [0; SLOTS];

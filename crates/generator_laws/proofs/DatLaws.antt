@@ -119,7 +119,8 @@ counted seed i = all_three (λ position. count_of (fields_at seed i) position �
 
 numbered : (seed : ℕ) (n index : ℕ) (none : RecordFields) → n ≤ 722400
     → index + 1 < length (fields_below seed n)
-    → IsNumberedAfter (get_or (fields_below seed n) index none) (get_or (fields_below seed n) (index + 1) none)
+    → IsNumberedAfter (get_or (fields_below seed n) index none)
+    (get_or (fields_below seed n) (index + 1) none)
 numbered seed n index none small below =
     let within : index + 1 < n = omega (arith, below, length_fields seed n) in
     rw (fields_are seed n index none (omega (arith, within)))

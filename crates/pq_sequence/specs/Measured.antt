@@ -16,9 +16,10 @@ use Rattle.pq_sequence.specs.declared.items.Length.{Length}
 use Rattle.pq_sequence.specs.declared.items.Length.TheVariants.{Short, TenMinutes, TwoHours}
 use Rattle.pq_sequence.specs.declared.intervals.RecordedIntervals.{RecordedIntervals}
 use Rattle.pq_sequence.specs.declared.touches.Reach.{Reach}
-use Rattle.pq_sequence.specs.MeasuredRecording.{basic_over, basics_of, basics_over, channel_count, clock_of, reference_cycles}
-use Rattle.pq_sequence.specs.SequentialResult.{basic_items, for_each_channel, number_of, short_item, ten_item, two_hour_item}
-use Rattle.pq_sequence.specs.Touches.{AreReaches}
+use Rattle.pq_sequence.specs.Lists.{Adds}
+use Rattle.pq_sequence.specs.MeasuredRecording.{basic_over, basics_of, basics_over, channel_count, clock_of, readings_of, reference_cycles}
+use Rattle.pq_sequence.specs.SequentialResult.{basic_item, basic_items, channel_items, for_each_channel, number_of, reading_items, short_item, ten_item, two_hour_item}
+use Rattle.pq_sequence.specs.Touches.{AreReaches, ForEventsOf}
 use Rattle.pq_time.specs.declared.clock.Clock.{Clock}
 use Rattle.ten_twelve.specs.declared.span.Span.{Span}
 
@@ -49,6 +50,29 @@ abbrev pub GivesBasics : {E : Type 0} → Result (Vec BasicInterval Global) E �
 GivesBasics result r boundaries reaches =
     IfOk result (λ found. (events : List Event) → AreReaches events reaches →
     basics_seen (channel_count r) found.items ≡ basics_of r events boundaries)
+
+-- so of those over runs of cycles
+abbrev pub GivesBasicsOver : {E : Type 0} → Result (Vec BasicInterval Global) E → Recorded → List ℕ → List ℕ →
+    List Reach → List Span → Type 0
+GivesBasicsOver result r boundaries fronts reaches runs =
+    IfOk result (λ found. AreBasicsOver r boundaries fronts reaches runs found.items)
+
+-- a measured basic interval as the item of the channel at a position
+abbrev pub measured_item : Recorded → BasicInterval → ℕ → Item
+measured_item r b position = basic_item r (basic_seen (channel_count r) b).part position
+
+-- and as items, one a channel
+abbrev pub items_of_one : Recorded → BasicInterval → List Item
+items_of_one r b = channel_items r (basic_item r (basic_seen (channel_count r) b).part)
+
+-- measured basic intervals as items, one a channel of each
+abbrev pub measured_items : Recorded → List BasicInterval → List Item
+measured_items r basics = basic_items r (basics_seen (channel_count r) basics)
+
+-- the readings of a recording that has the events of these reaches were added
+abbrev pub AddsReadings : Recorded → List Reach → Vec Item Global → Vec Item Global → Type 0
+AddsReadings r reaches old new =
+    ForEventsOf reaches (λ events. Adds old new (reading_items events (readings_of r (reference_cycles r))))
 
 -- the cycles at which runs begin
 abbrev pub run_starts : List Span → List ℕ
@@ -100,6 +124,14 @@ item_of_length TwoHours number g value =
 -- and as that of the channel at a position
 abbrev pub group_item : Length → Recorded → Group → ℕ → Item
 group_item long r g position = item_of_length long (number_of r position) g (slice_index g.values position)
+
+-- and as items, one a channel
+abbrev pub items_of_group : Length → Recorded → Group → List Item
+items_of_group long r g = channel_items r (group_item long r g)
+
+-- aggregated intervals of a length as items, one a channel of each
+abbrev pub group_items : Length → Recorded → List Group → List Item
+group_items long r groups = for_each_channel r (group_item long r) groups
 
 -- intervals of each length as items, one a channel of each
 abbrev pub intervals_seen : Recorded → RecordedIntervals → List Item

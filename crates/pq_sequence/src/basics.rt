@@ -6,7 +6,7 @@ ghost use Rattle.fixed_rms.specs.Root.{rms};
 ghost use Rattle.pq_base.specs.Recorded.{sample_count};
 ghost use Rattle.pq_sequence.specs.BasicInterval.{IsRun, basic_span, cycles_of};
 ghost use Rattle.pq_sequence.specs.Lists.{Gives, GivesAll};
-ghost use Rattle.pq_sequence.specs.Measured.{AreBasicsOver, AreBelow, AreMeasured, GivesBasics, IsBasicOver, IsMeasured, run_starts};
+ghost use Rattle.pq_sequence.specs.Measured.{AreBasicsOver, AreBelow, AreMeasured, GivesBasics, IsBasicOver, IsMeasured, run_starts, GivesBasicsOver};
 ghost use Rattle.pq_sequence.specs.MeasuredRecording.{channel_count, roots_over};
 ghost use Rattle.pq_sequence.specs.Touches.{AreReachesOfSome};
 ghost use Rattle.pq_words.specs.Samples.{AreSamples};
@@ -14,14 +14,14 @@ ghost use Rattle.ten_twelve.specs.Run.{AreStarts, runs};
 ghost use Rattle.zero_cross.specs.Boundary.{AreBoundaries};
 
 use crate::clock::clock_of;
-use crate::cycles::cycles_of_line;
 use crate::fronts::all_fronts;
+use crate::runs::{basic_runs, span_of};
 use crate::touches::{Reach, is_touched};
 use fixed_rms::rms;
 use pq_base::{OutOfMemory, Recording};
 use pq_words::{MOST_MICROVOLTS, MOST_SELECTED};
 use std::alloc::{AllocError, Global};
-use ten_twelve::{Span, chop};
+use ten_twelve::Span;
 
 // Room for the values of the most channels.
 const SLOTS: usize = MOST_SELECTED as usize;
@@ -58,22 +58,6 @@ pub fn recorded_basics(
     Ok(basics)
 }
 
-// The basic intervals as runs of cycles, from each front on.
-fn basic_runs(
-    alloc: Global,
-    fronts: &[u64],
-    boundaries: &[u64],
-    lf: u32,
-) -> Result<Vec<Span>, OutOfMemory>
-    requires { AreStarts fronts.now (length boundaries.now - 1) }
-    ensures value { Gives result (runs fronts.now (cycles_of lf) (length boundaries.now - 1)) }
-    ensures within { GivesAll (IsRun (length boundaries.now)) result }
-    ensures rising { IfOk result (λ found. IsNonDecreasing (run_starts found.items)) }
-{
-    let count = boundaries.len().saturating_sub(1) as u64;
-    chop(alloc, fronts, cycles_of_line(lf), count).map_err(|_| OutOfMemory)
-}
-
 // The basic intervals over runs of cycles; the fronts are gone along with.
 fn basics_over(
     alloc: Global,
@@ -87,8 +71,7 @@ fn basics_over(
     requires fronts { IsStrictlyIncreasing fronts.now }
     requires runs { All (IsRun (length boundaries.now)) runs.now }
     requires rising { IsNonDecreasing (run_starts runs.now) }
-    ensures value { IfOk result
-        (λ found. AreBasicsOver recording.now boundaries.now fronts.now reaches.now runs.now found.items) }
+    ensures value { GivesBasicsOver result recording.now boundaries.now fronts.now reaches.now runs.now }
     ensures each { GivesAll (IsMeasured recording.now) result }
 {
     let mut found = Vec::with_capacity(alloc, runs.len())?;
@@ -121,17 +104,6 @@ fn is_at(fronts: &[u64], next: usize, cycle: u64) -> bool
     ensures { result ≡ list_any (λ g. g == cycle) fronts.now }
 {
     next < fronts.len() && fronts[next] == cycle
-}
-
-// A run of cycles as a span of places.
-fn span_of(boundaries: &[u64], run: Span) -> Span
-    requires { IsRun (length boundaries.now) run }
-    ensures { result ≡ basic_span boundaries.now run }
-{
-    Span {
-        start: boundaries[run.start as usize],
-        end: boundaries[run.end as usize],
-    }
 }
 
 // The basic interval over a span.

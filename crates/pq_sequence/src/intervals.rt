@@ -1,15 +1,12 @@
 // The intervals of a recording, of all lengths.
 ghost use Rattle.std.specs.Prelude.{IfOk, OnOk};
-ghost use Rattle.pq_base.specs.Recorded.{sample_count};
-ghost use Rattle.pq_sequence.specs.Lists.{Adds, Gives};
+ghost use Rattle.pq_sequence.specs.Lists.{Adds};
 ghost use Rattle.pq_sequence.specs.Measured.{AreIntervals, intervals_seen};
-ghost use Rattle.pq_sequence.specs.MeasuredRecording.{reference_cycles as cycles_of_recording};
 ghost use Rattle.pq_sequence.specs.Touches.{AreReachesOfSome, ForEventsOf};
-ghost use Rattle.zero_cross.specs.Boundary.{AreBoundaries};
 
 use crate::basics::{BasicInterval, recorded_basics};
 use crate::clock::clock_of;
-use crate::cycles::{cycle_boundaries, recorded_rule};
+use crate::cycles::reference_cycles;
 use crate::groups::{Groups, all_groups};
 use crate::items::{Length, push_basics, push_groups};
 use crate::touches::Reach;
@@ -80,13 +77,4 @@ pub fn push_intervals(
     push_groups(items, recording, Length::Short, &groups.shorts)?;
     push_groups(items, recording, Length::TenMinutes, &groups.tens)?;
     push_groups(items, recording, Length::TwoHours, &groups.two_hours)
-}
-
-// The cycle boundaries of the reference channel.
-fn reference_cycles(alloc: Global, recording: &Recording) -> Result<Vec<u64>, AllocError>
-    ensures value { Gives result (cycles_of_recording recording.now) }
-    ensures within { IfOk result (λ found. AreBoundaries found.items (sample_count recording.now)) }
-{
-    let samples = recording.samples(recording.reference());
-    cycle_boundaries(alloc, samples, recorded_rule(recording))
 }

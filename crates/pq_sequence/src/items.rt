@@ -1,9 +1,8 @@
 // Intervals and events, as items.
 ghost use Rattle.std.specs.Prelude.{◌≡◌, ◌<◌, length, All, OnOk};
 ghost use Rattle.pq_sequence.specs.Lists.{Adds};
-ghost use Rattle.pq_sequence.specs.Measured.{basic_seen, basics_seen, group_item as item_of_group, item_of_length};
-ghost use Rattle.pq_sequence.specs.MeasuredRecording.{channel_count};
-ghost use Rattle.pq_sequence.specs.SequentialResult.{basic_item as item_of_basic, basic_items, channel_items, event_items, for_each_channel, item_of_kind};
+ghost use Rattle.pq_sequence.specs.Measured.{group_item as item_of_one_group, group_items, item_of_length, items_of_group, items_of_one, measured_item, measured_items};
+ghost use Rattle.pq_sequence.specs.SequentialResult.{event_items, item_of_kind};
 
 use crate::basics::BasicInterval;
 use crate::cycles::cycles_of_line;
@@ -27,8 +26,7 @@ pub fn push_basics(
     recording: &Recording,
     basics: &[BasicInterval],
 ) -> Result<(), AllocError>
-    ensures { OnOk result (Adds items.old items.new
-        (basic_items recording.now (basics_seen (channel_count recording.now) basics.now))) }
+    ensures { OnOk result (Adds items.old items.new (measured_items recording.now basics.now)) }
 {
     for basic in basics {
         push_basic(items, recording, basic)?;
@@ -43,8 +41,7 @@ pub fn push_groups(
     long: Length,
     groups: &[Group],
 ) -> Result<(), AllocError>
-    ensures { OnOk result (Adds items.old items.new
-        (for_each_channel recording.now (item_of_group long recording.now) groups.now)) }
+    ensures { OnOk result (Adds items.old items.new (group_items long recording.now groups.now)) }
 {
     for group in groups {
         push_group(items, recording, long, group)?;
@@ -67,68 +64,8 @@ pub fn push_events(
     Ok(())
 }
 
-// Adds a basic interval, one item a channel.
-fn push_basic(
-    items: &mut Vec<Item>,
-    recording: &Recording,
-    basic: &BasicInterval,
-) -> Result<(), AllocError>
-    ensures { OnOk result (Adds items.old items.new (channel_items recording.now
-        (item_of_basic recording.now (basic_seen (channel_count recording.now) basic.now).part))) }
-{
-    for position in 0..recording.channels() {
-        items.push(basic_item(recording, basic, position))?;
-    }
-    Ok(())
-}
-
-// Adds an aggregated interval, one item a channel.
-fn push_group(
-    items: &mut Vec<Item>,
-    recording: &Recording,
-    long: Length,
-    group: &Group,
-) -> Result<(), AllocError>
-    ensures { OnOk result (Adds items.old items.new
-        (channel_items recording.now (item_of_group long recording.now group.now))) }
-{
-    for position in 0..recording.channels() {
-        items.push(group_item(recording, long, group, position))?;
-    }
-    Ok(())
-}
-
-// A basic interval as the item of the channel at a position.
-fn basic_item(recording: &Recording, basic: &BasicInterval, position: u32) -> Item
-    requires { position < length recording.now.numbers }
-    ensures { result
-        ≡ item_of_basic recording.now (basic_seen (channel_count recording.now) basic.now).part position }
-{
-    Item::Basic {
-        channel: recording.number(position),
-        start: basic.span.start,
-        end: basic.span.end,
-        cycles: cycles_of_line(recording.lf()),
-        value: basic.values[position as usize],
-        flagged: basic.flagged,
-    }
-}
-
-// An aggregated interval as the item of the channel at a position.
-fn group_item(recording: &Recording, long: Length, group: &Group, position: u32) -> Item
-    requires { position < length recording.now.numbers }
-    ensures { result ≡ item_of_group long recording.now group.now position }
-{
-    item_of_length(
-        long,
-        recording.number(position),
-        group,
-        group.values[position as usize],
-    )
-}
-
-// An aggregated interval of a length as an item of a channel, with its value.
-fn item_of_length(long: Length, channel: u32, group: &Group, value: u64) -> Item
+/// An aggregated interval of a length as an item of a channel, with its value.
+pub fn item_of_length(long: Length, channel: u32, group: &Group, value: u64) -> Item
     ensures { result ≡ item_of_length long channel group.now value }
 {
     let Group {
@@ -166,8 +103,8 @@ fn item_of_length(long: Length, channel: u32, group: &Group, value: u64) -> Item
     }
 }
 
-// An event as an item, with the number of its channel.
-fn event_item(channel: u32, event: &Event) -> Item
+/// An event as an item, with the number of its channel.
+pub fn event_item(channel: u32, event: &Event) -> Item
     ensures { result ≡ item_of_kind event.now.kind channel event.now }
 {
     let Event {
@@ -201,4 +138,61 @@ fn event_item(channel: u32, event: &Event) -> Item
             is_open,
         },
     }
+}
+
+// Adds a basic interval, one item a channel.
+fn push_basic(
+    items: &mut Vec<Item>,
+    recording: &Recording,
+    basic: &BasicInterval,
+) -> Result<(), AllocError>
+    ensures { OnOk result (Adds items.old items.new (items_of_one recording.now basic.now)) }
+{
+    for position in 0..recording.channels() {
+        items.push(basic_item(recording, basic, position))?;
+    }
+    Ok(())
+}
+
+// Adds an aggregated interval, one item a channel.
+fn push_group(
+    items: &mut Vec<Item>,
+    recording: &Recording,
+    long: Length,
+    group: &Group,
+) -> Result<(), AllocError>
+    ensures { OnOk result (Adds items.old items.new (items_of_group long recording.now group.now)) }
+{
+    for position in 0..recording.channels() {
+        items.push(group_item(recording, long, group, position))?;
+    }
+    Ok(())
+}
+
+// A basic interval as the item of the channel at a position.
+fn basic_item(recording: &Recording, basic: &BasicInterval, position: u32) -> Item
+    requires { position < length recording.now.numbers }
+    ensures { result ≡ measured_item recording.now basic.now position }
+{
+    Item::Basic {
+        channel: recording.number(position),
+        start: basic.span.start,
+        end: basic.span.end,
+        cycles: cycles_of_line(recording.lf()),
+        value: basic.values[position as usize],
+        flagged: basic.flagged,
+    }
+}
+
+// An aggregated interval as the item of the channel at a position.
+fn group_item(recording: &Recording, long: Length, group: &Group, position: u32) -> Item
+    requires { position < length recording.now.numbers }
+    ensures { result ≡ item_of_one_group long recording.now group.now position }
+{
+    item_of_length(
+        long,
+        recording.number(position),
+        group,
+        group.values[position as usize],
+    )
 }

@@ -3,7 +3,10 @@
 #![tactic(auto)]
 
 pub use clock::clock_of;
+pub use cycles::{cycles_of_line, recorded_rule, reference_cycles};
+pub use items::{Length, event_item, item_of_length};
 pub use laws::{cut_is_prefix, events_lie_within, fronts_rise};
+pub use runs::{recorded_runs, span_of};
 pub use sequential::sequence;
 
 mod basics;
@@ -15,6 +18,7 @@ mod intervals;
 mod items;
 mod laws;
 mod readings;
+mod runs;
 mod sequential;
 #[cfg(test)]
 mod tests;

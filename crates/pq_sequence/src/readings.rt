@@ -1,8 +1,7 @@
 // Frequency readings, as items.
 ghost use Rattle.std.specs.Prelude.{◌≡◌, OnOk};
-ghost use Rattle.pq_sequence.specs.Lists.{Adds};
-ghost use Rattle.pq_sequence.specs.MeasuredRecording.{readings_of, reference_cycles};
-ghost use Rattle.pq_sequence.specs.SequentialResult.{reading_item, reading_items};
+ghost use Rattle.pq_sequence.specs.Measured.{AddsReadings};
+ghost use Rattle.pq_sequence.specs.SequentialResult.{reading_item};
 ghost use Rattle.pq_sequence.specs.Touches.{ForEventsOf};
 
 use crate::clock::clock_of;
@@ -20,8 +19,7 @@ pub fn push_readings(
     recording: &Recording,
     reaches: &[Reach],
 ) -> Result<(), AllocError>
-    ensures { OnOk result (ForEventsOf reaches.now (λ events. Adds items.old items.new
-        (reading_items events (readings_of recording.now (reference_cycles recording.now))))) }
+    ensures { OnOk result (AddsReadings recording.now reaches.now items.old items.new) }
 {
     let samples = recording.samples(recording.reference());
     for reading in Readings::new(samples, recorded_rule(recording), clock_of(recording)) {

@@ -1,5 +1,5 @@
 -- The subject: which of several channels has the window that starts first. All of it is profile.
-use Rattle.std.specs.Prelude.{◌≡◌, ◌⊎◌, [], ◌∷◌, ℕ, ◌<◌, ◌≤◌, List, length, map, MatchOption, Option, None, Some, option_map, option_and_then, slice_get}
+use Rattle.std.specs.Prelude.{◌≡◌, ◌⊎◌, [], ◌∷◌, ℕ, ◌<◌, ◌≤◌, List, length, map, MatchOption, Option, None, Some, option_map, option_and_then, slice_get, ◌+◌}
 use Rattle.std.specs.List.Sorted.{IsStrictlyIncreasing}
 use Rattle.event_detect.specs.declared.window.Window.{Window}
 use Rattle.polyphase.specs.PolyphaseEvent.{ChannelWindow, merged_windows}
@@ -30,6 +30,12 @@ pub record IsLeastFirst (channels : List (List Window)) (n i start : ℕ) : Type
 -- what was found among the first n channels: a position and a start, or that none has a window
 abbrev pub IsEarliest : List (List Window) → ℕ → Option (ℕ × ℕ) → Type 0
 IsEarliest channels n found = MatchOption found (AreOver channels n) (λ f. IsLeastFirst channels n f.0 f.1)
+
+-- whatever the channels are of which this was found, and where the windows of the next one start, that is
+-- found among it and those before
+abbrev pub TakesEarlier : ℕ → Option (ℕ × ℕ) → Option ℕ → Option (ℕ × ℕ) → Type 0
+TakesEarlier i found start now = (channels : List (List Window)) → IsEarliest channels i found
+    → first_start channels i ≡ start → IsEarliest channels (i + 1) now
 
 -- the same of all channels, by the position alone
 abbrev pub IsNext : List (List Window) → Option ℕ → Type 0

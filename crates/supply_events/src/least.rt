@@ -1,7 +1,5 @@
 // Which channel comes next.
-ghost use Rattle.std.specs.Prelude.{◌≡◌, ◌+◌, List, ℕ};
-ghost use Rattle.event_detect.specs.declared.window.Window.{Window as SeenWindow};
-ghost use Rattle.supply_events.specs.FirstStart.{IsEarliest, IsNext, first_start};
+ghost use Rattle.supply_events.specs.FirstStart.{IsNext, TakesEarlier};
 
 use crate::queue::Queue;
 
@@ -22,8 +20,7 @@ pub fn least(channels: &[Queue<'_>]) -> Option<usize>
 
 // The channel at this position, where its next window starts before that of the one found so far.
 fn earlier(found: Option<(usize, u64)>, position: usize, start: Option<u64>) -> Option<(usize, u64)>
-    ensures { (channels : List (List SeenWindow)) → IsEarliest channels position found →
-        first_start channels position ≡ start → IsEarliest channels (position + 1) result }
+    ensures { TakesEarlier position found start result }
 {
     match (found, start) {
         (Some((_, least)), Some(start)) => {

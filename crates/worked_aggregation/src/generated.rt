@@ -3,8 +3,8 @@ use pq_run::Status;
 use std::test::Fail;
 use worked_signals::{WHOLE, run, run_analyse};
 
-// Of a seed: readings and basic and 150-cycle records that are flagged, dips, swells, and the fold, worked out
-// apart from the program (`scripts/generated_summary.py`).
+// Of a seed: readings and basic and 150-cycle records that are flagged, dips, swells, and the fold, worked
+// out apart from the program (`scripts/generated_summary.py`).
 const OF_SEEDS: [(&str, [u32; 5], &str); 3] = [
     ("0", [12, 111, 33, 5, 5], "10750494558176328439"),
     ("1", [11, 138, 36, 6, 4], "7729179716110298820"),

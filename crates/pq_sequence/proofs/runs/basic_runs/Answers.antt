@@ -7,7 +7,7 @@ use Rattle.pq_sequence.specs.Measured.{run_starts}
 use Rattle.pq_sequence.proofs.BasicLemmas.{runs_lie, some_cycles}
 use Rattle.pq_sequence.proofs.WalkLemmas.{runs_rise}
 use Rattle.ten_twelve.specs.Run.{runs}
-use Rattle.pq_sequence.proofs.basics.basic_runs.Goals as goal
+use Rattle.pq_sequence.proofs.runs.basic_runs.Goals as goal
 
 -- the runs are those of `chop`
 pub returns-clause-value : goal.returns-clause-value
