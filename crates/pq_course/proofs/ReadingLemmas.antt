@@ -12,7 +12,7 @@ use Rattle.pq_base.specs.Outside.{Files, HasAsked, Holds}
 use Rattle.pq_base.specs.declared.shelf.Shelf as shelf
 use Rattle.pq_course.proofs.CourseLemmas.{Follows, asked_names, asked_none, all_after, begun_at, counted_then, of_rest, top_call_after}
 use Rattle.pq_course.specs.InputFile.{asks_for, limit_of, number_of, quantity_of}
-use Rattle.pq_course.specs.Parts.{HasBytes, IsIdle, IsJobText, IsRead}
+use Rattle.pq_course.specs.Parts.{HasBytes, IsIdle, IsJobText, IsRead, rest_until, whole_until}
 use Rattle.status_text.specs.Refusals.{IsRefusing, cfg_refusal, dat_refusal, or_refused}
 use Rattle.pq_course.specs.Judged.{goes_on}
 use Rattle.pq_course.specs.TopCall.{HasTakenFront, HasTakenNothing, IsTopCall, OfOutcome, Reading, Writing, reading_of}
@@ -167,21 +167,44 @@ within_limit : (n limit : ℕ) → n ≤ limit → nat_le n limit ≡ true
 within_limit n limit fits = grind (arith, nat_tests)
 
 -- after a file that was read the course goes on with its bytes
+pub read_until : (file : InputFile) (name : Text) (go : Text → Course Status) (bytes : Text) (part : Reading)
+    (asked : Option (List Text)) (count : ℕ) (result : Result Text Status)
+    → HasBytes file name part bytes → IsRead (go bytes) (rest_until part asked count) result →
+    IsRead (asks_for file name go) (whole_until part asked count) result
+read_until file name go bytes part asked count result h rest =
+    let later : Reading = rest_until part asked count in
+    let follows : Follows part.asked_before part.before name (Some bytes) later = record {
+      finds = finds_held part.files name bytes h.held;
+      names = h.asked;
+      later = h.later;
+      counted = h.counted;
+    } in
+    read_after part.asked_before part.before name
+    (with_file (status.NoFile (number_of file)) (status.Limit (quantity_of file) 0) (limit_of file) go)
+    (Some bytes) later result follows (rw (within_limit (length bytes) (limit_of file) h.within) rest)
+
+-- reading from b to c, with the files as they were at a
+abbrev pub reading_since : {K : Type 0} → shelf.Ghosts K → K → K → K → Reading
+reading_since told a b c = record (reading_of told b c) { files = told.files a }
+
+-- a file that was read later is one of the files that there were
+pub held_since : {K : Type 0} (told : shelf.Ghosts K) (a b c : K) (file : InputFile) (name bytes : Text)
+    → HasBytes file name (reading_of told b c) bytes → told.files b ≡ told.files a
+    → HasBytes file name (reading_since told a b c) bytes
+held_since told a b c file name bytes h same = record {
+  held = subst (λ fs. Holds fs name bytes) same h.held;
+  within = h.within;
+  asked = h.asked;
+  counted = h.counted;
+  later = h.later;
+}
+
+-- the same, where the rest was read from the files that it left
 pub after_file : {K : Type 0} (told : shelf.Ghosts K) (a b c : K) (file : InputFile) (name : Text)
     (go : Text → Course Status) (bytes : Text) (result : Result Text Status)
     → HasBytes file name (reading_of told a b) bytes → told.files b ≡ told.files a
     → IsRead (go bytes) (reading_of told b c) result →
     IsRead (asks_for file name go) (reading_of told a c) result
 after_file told a b c file name go bytes result h same rest =
-    let later : Reading = record (reading_of told b c) { files = told.files a } in
-    let follows : Follows (told.asked a) (told.faults a) name (Some bytes) later = record {
-      finds = finds_held (told.files a) name bytes h.held;
-      names = h.asked;
-      later = h.later;
-      counted = h.counted;
-    } in
-    let moved : IsRead (go bytes) later result =
-    subst (λ fs. IsRead (go bytes) (record (reading_of told b c) { files = fs }) result) same rest in
-    read_after (told.asked a) (told.faults a) name
-    (with_file (status.NoFile (number_of file)) (status.Limit (quantity_of file) 0) (limit_of file) go)
-    (Some bytes) later result follows (rw (within_limit (length bytes) (limit_of file) h.within) moved)
+    read_until file name go bytes (reading_of told a b) (told.asked c) (told.faults c) result h
+    (subst (λ fs. IsRead (go bytes) (record (reading_of told b c) { files = fs }) result) same rest)

@@ -7,6 +7,7 @@ use Rattle.comtrade_dat.specs.declared.limits.TheConstants.{MOST_DAT_BYTES}
 use Rattle.pq_course.specs.Verdict.{Course, Asks, with_file}
 use Rattle.pq_course.specs.declared.input_file.InputFile.{InputFile}
 use Rattle.pq_course.specs.declared.input_file.InputFile.TheVariants as file
+use Rattle.pq_course.specs.declared.input_file.TheConstants.{MOST_SCHEDULE_BYTES}
 use Rattle.status_text.specs.declared.status.Status.{Status}
 use Rattle.status_text.specs.declared.status.Status.TheVariants as status
 use Rattle.pq_words.specs.Text.{Text}
@@ -15,16 +16,19 @@ use Rattle.pq_words.specs.Text.{Text}
 abbrev pub number_of : InputFile → ℕ
 number_of file.Cfg = 1
 number_of file.Dat = 2
+number_of file.Schedule = 3
 
 -- the most bytes that it may have
 abbrev pub limit_of : InputFile → ℕ
 limit_of file.Cfg = MOST_CFG_BYTES
 limit_of file.Dat = MOST_DAT_BYTES
+limit_of file.Schedule = MOST_SCHEDULE_BYTES
 
 -- what passes this limit
 abbrev pub quantity_of : InputFile → Quantity
 quantity_of file.Cfg = quantity.CfgBytes
 quantity_of file.Dat = quantity.DatBytes
+quantity_of file.Schedule = quantity.ScheduleBytes
 
 -- the file of this name is asked for, and the course goes on with its bytes
 abbrev pub asks_for : InputFile → Text → (Text → Course Status) → Course Status

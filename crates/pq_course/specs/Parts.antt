@@ -1,5 +1,5 @@
 -- The parts of a top call: reading, which gives the text of the job or a status, and then writing (profile).
-use Rattle.std.specs.Prelude.{◌≡◌, ℕ, ◌≤◌, true, false, List, [], ◌∷◌, length, IfSome, Result, Ok, Err}
+use Rattle.std.specs.Prelude.{◌≡◌, ℕ, ◌≤◌, true, false, List, [], ◌∷◌, length, Option, IfSome, Result, Ok, Err}
 use Rattle.pq_base.specs.Causes.{CountsOnce, Rose}
 use Rattle.pq_base.specs.Outside.{HasAsked, Holds}
 use Rattle.pq_course.specs.InputFile.{asks_for, limit_of}
@@ -27,6 +27,32 @@ pub record IsIdle (w : Writing) : Type 0 where
 abbrev pub IsRead : Course Status → Reading → Result Text Status → Type 0
 IsRead course r (Ok text) = IsJobText course r text
 IsRead course r (Err s) = (w : Writing) → IsIdle w → IsTopCall course (record { reads = r; writes = w }) s
+
+-- ---- a part that gives a value
+
+-- the rest of a call's reading, after a part of it, up to these names asked and this count
+abbrev pub rest_until : Reading → Option (List Text) → ℕ → Reading
+rest_until part asked count = record {
+  files = part.files;
+  asked_before = part.asked_after;
+  asked_after = asked;
+  before = part.after;
+  after = count;
+  each = part.each;
+}
+
+-- the part and this rest
+abbrev pub whole_until : Reading → Option (List Text) → ℕ → Reading
+whole_until part asked count = record part { asked_after = asked; after = count }
+
+-- what such a part gives, of courses that go the same way and then on from its value: what the rest gives of
+-- the course from the value on, the whole gives of the course; or the status of any such course
+abbrev pub IsReadFor : {A : Type 0} → ((A → Course Status) → Course Status) → Reading → Result A Status
+    → Type 0
+IsReadFor {A} way part (Ok x) = (go : A → Course Status) (asked : Option (List Text)) (count : ℕ)
+    (result : Result Text Status) → IsRead (go x) (rest_until part asked count) result
+    → IsRead (way go) (whole_until part asked count) result
+IsReadFor {A} way part (Err s) = (go : A → Course Status) → IsRead (way go) part (Err s)
 
 -- ---- one file
 

@@ -10,11 +10,15 @@ use pq_base::{ReadAll, Shelf, Text, read_all};
 use status_text::Status;
 use std::alloc::Global;
 
+/// The most bytes that a schedule may have (profile).
+pub const MOST_SCHEDULE_BYTES: u64 = 1_048_576;
+
 /// A file that words name.
 #[derive(Clone, Copy)]
 pub enum InputFile {
     Cfg,
     Dat,
+    Schedule,
 }
 
 /// The bytes of the file of this name, or the status of a call that can't have them. The shelf is asked for
@@ -51,6 +55,7 @@ fn number_of(file: InputFile) -> u32
     match file {
         InputFile::Cfg => 1,
         InputFile::Dat => 2,
+        InputFile::Schedule => 3,
     }
 }
 
@@ -61,6 +66,7 @@ fn limit_of(file: InputFile) -> u64
     match file {
         InputFile::Cfg => MOST_CFG_BYTES as u64,
         InputFile::Dat => MOST_DAT_BYTES,
+        InputFile::Schedule => MOST_SCHEDULE_BYTES,
     }
 }
 
@@ -70,5 +76,6 @@ fn quantity_of(file: InputFile) -> Quantity
     match file {
         InputFile::Cfg => Quantity::CfgBytes,
         InputFile::Dat => Quantity::DatBytes,
+        InputFile::Schedule => Quantity::ScheduleBytes,
     }
 }

@@ -17,7 +17,8 @@ pub sentences : map sentence_of
     ∷ status.Selection 0 ∷ status.Selection 9 ∷ status.BadLimits
     ∷ status.DatFault (fault.Short 552) ∷ status.DatFault (fault.Number 3 4294967295)
     ∷ status.DatFault (fault.Missing 5 1) ∷ status.DatFault (fault.Long 1)
-    ∷ status.ReadFault 1 ∷ status.WriteFault 2 ∷ status.OutOfMemory ∷ status.NoFile 2 ∷ status.Done ∷ [])
+    ∷ status.ReadFault 1 ∷ status.WriteFault 2 ∷ status.ScheduleFault 2 ∷ status.OutOfMemory
+    ∷ status.NoFile 2 ∷ status.Done ∷ [])
     ≡ codes "usage: words not understood"
     ∷ codes "cfg line 2: missing, surplus or wrong number of fields"
     ∷ codes "cfg line 3 field 13: not readable"
@@ -34,6 +35,7 @@ pub sentences : map sentence_of
     ∷ codes "dat: 1 bytes after the last record"
     ∷ codes "read failed (1)"
     ∷ codes "write failed (2)"
+    ∷ codes "schedule line 2: not allowed"
     ∷ codes "out of memory"
     ∷ codes "file 2: not found" ∷ [] ∷ []
 unfolding sentence_of digits
@@ -42,7 +44,7 @@ sentences = refl
 pub exit_codes : map code_of
     (status.Done ∷ status.Usage ∷ status.CfgFault 2 0 ∷ status.Unsupported unsupported.Revision 0
     ∷ status.Limit quantity.DatBytes 0 ∷ status.Selection 0 ∷ status.BadLimits
-    ∷ status.DatFault (fault.Long 1) ∷ status.ReadFault 1 ∷ status.WriteFault 1 ∷ status.OutOfMemory
-    ∷ status.NoFile 1 ∷ [])
-    ≡ 0 ∷ 1 ∷ 2 ∷ 3 ∷ 4 ∷ 5 ∷ 6 ∷ 7 ∷ 8 ∷ 9 ∷ 11 ∷ 14 ∷ []
+    ∷ status.DatFault (fault.Long 1) ∷ status.ReadFault 1 ∷ status.WriteFault 1 ∷ status.ScheduleFault 1
+    ∷ status.OutOfMemory ∷ status.NoFile 1 ∷ [])
+    ≡ 0 ∷ 1 ∷ 2 ∷ 3 ∷ 4 ∷ 5 ∷ 6 ∷ 7 ∷ 8 ∷ 9 ∷ 10 ∷ 11 ∷ 14 ∷ []
 exit_codes = refl

@@ -24,6 +24,7 @@ code_of status.BadLimits = 6
 code_of (status.DatFault kind) = 7
 code_of (status.ReadFault faults) = 8
 code_of (status.WriteFault faults) = 9
+code_of (status.ScheduleFault line) = 10
 code_of status.OutOfMemory = 11
 code_of (status.NoFile file) = 14
 
@@ -98,6 +99,7 @@ sentence_of status.BadLimits = codes "settings: thresholds out of order"
 sentence_of (status.DatFault kind) = dat_fault_text kind
 sentence_of (status.ReadFault faults) = codes "read failed (" ++ (decimal faults ++ codes ")")
 sentence_of (status.WriteFault faults) = codes "write failed (" ++ (decimal faults ++ codes ")")
+sentence_of (status.ScheduleFault line) = codes "schedule line " ++ (decimal line ++ codes ": not allowed")
 sentence_of status.OutOfMemory = codes "out of memory"
 sentence_of (status.NoFile file) = codes "file " ++ (decimal file ++ codes ": not found")
 

@@ -73,6 +73,9 @@ impl Sentence {
             Status::DatFault { kind } => dat_sentence(kind),
             Status::ReadFault { faults } => numbered("read failed (", faults, ")", ""),
             Status::WriteFault { faults } => numbered("write failed (", faults, ")", ""),
+            Status::ScheduleFault { line } => {
+                numbered("schedule line ", line, ": not allowed", "")
+            }
             Status::OutOfMemory => plain("out of memory", ""),
             Status::NoFile { file } => file_sentence(file),
         }

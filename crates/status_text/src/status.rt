@@ -25,6 +25,8 @@ pub enum Status {
     ReadFault { faults: u64 },
     /// A call of the sink failed; the sink counts so many faults.
     WriteFault { faults: u64 },
+    /// The first line of the schedule that is outside its grammar or not allowed, counted from 1.
+    ScheduleFault { line: u64 },
     /// Memory ran out.
     OutOfMemory,
     /// The file that this positional names, counted from 1, is not there.
@@ -50,6 +52,7 @@ impl Status {
             Status::DatFault { .. } => 7,
             Status::ReadFault { .. } => 8,
             Status::WriteFault { .. } => 9,
+            Status::ScheduleFault { .. } => 10,
             Status::OutOfMemory => 11,
             Status::NoFile { .. } => 14,
         }
