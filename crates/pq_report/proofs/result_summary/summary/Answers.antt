@@ -5,8 +5,8 @@ use Rattle.pq_report.proofs.result_summary.summary.Goals as goal
 -- a kind's line more
 pub loop-rank-preserved : goal.loop-rank-preserved
 loop-rank-preserved c = lines_next (front_of c.args.seed c.args.samples) c.loop-rank.text.items
-    c.push_kind.new.text.items c.args.items.now c.of-tally.result c.loop-rank.rank c.loop-rank-test.true c.of-tally.ensures c.loop-rank.invariant
-    c.in_ok-push_kind.ensures
+    c.push_kind.new.text.items c.args.items.now c.of-tally.result c.loop-rank.rank c.loop-rank-test.true
+    c.of-tally.ensures c.loop-rank.invariant c.in_ok-push_kind.ensures
 
 -- all kinds' lines, and the last line
 pub returns : goal.returns
