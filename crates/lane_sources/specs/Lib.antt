@@ -1,0 +1,2 @@
+pub mod LaneSource
+pub mod Sampler
