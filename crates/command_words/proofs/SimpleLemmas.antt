@@ -4,7 +4,7 @@ use Rattle.clap.proofs.OnLiterals.{clap_on_literals}
 use Rattle.clap.specs.Words.{App, IsAmong, Kinds, Row, fault_of, is_simple, is_simple_and_free, matches_of}
 use Rattle.clap.specs.declared.error.kind.ErrorKind.{ErrorKind}
 use Rattle.clap.specs.declared.error.kind.ErrorKind.TheVariants as kind
-use Rattle.command_words.specs.Simple.{check_app, emit_app, found_unless, generate_app, kind_fault, measuring_app, said_by}
+use Rattle.command_words.specs.Simple.{check_app, emit_app, found_unless, generate_app, kind_fault, measuring_app, replay_app, said_by}
 use Rattle.command_words.specs.declared.command.WordsFault.TheVariants as fault
 use Rattle.pq_words.specs.Text.{Text}
 
@@ -25,6 +25,10 @@ generate_is_simple = refl
 pub measuring_is_simple : is_simple_and_free measuring_app ≡ true
 unfolding measuring_app clap_on_literals
 measuring_is_simple = refl
+
+pub replay_is_simple : is_simple_and_free replay_app ≡ true
+unfolding replay_app measuring_app clap_on_literals
+replay_is_simple = refl
 
 left : (a b : Bool) → (a && b) ≡ true → a ≡ true
 left true b e = refl

@@ -2,8 +2,8 @@
 use Rattle.std.proofs.Common.{◌≡◌, ◌++◌, [], ◌∷◌, map, refl, replicate, Some, None, Ok, Err}
 use Rattle.std.specs.Prelude.{codes}
 use Rattle.clap.proofs.OnLiterals.{clap_on_literals}
-use Rattle.command_words.specs.Commands.{Analyse, Check, Emit, Generate, Intervals, check_task, emit_task, generate_task, measured, measurement_of, named_task, task_of}
-use Rattle.command_words.specs.Simple.{check_app, emit_app, generate_app, measuring_app, said_by}
+use Rattle.command_words.specs.Commands.{Analyse, Check, Emit, Generate, Intervals, Replay, check_task, emit_task, generate_task, measured, measurement_of, named_task, replay_task, task_of}
+use Rattle.command_words.specs.Simple.{check_app, emit_app, generate_app, measuring_app, replay_app, said_by}
 use Rattle.command_words.specs.Values.{channels_of, settings_of}
 use Rattle.command_words.specs.declared.command.Part.TheVariants as part
 use Rattle.command_words.specs.declared.command.WordsFault.TheVariants as fault
@@ -43,6 +43,20 @@ pub usual_options : task_of
     }))
 unfolding named_task measured settings_of said_by measuring_app clap_on_literals
 usual_options = refl
+
+-- a replay has a third positional
+pub replays : map task_of
+    ((codes "replay" ∷ codes "--udin=1" ∷ codes "a" ∷ codes "b" ∷ codes "c" ∷ [])
+    ∷ (codes "replay" ∷ codes "--udin=1" ∷ codes "a" ∷ codes "b" ∷ []) ∷ [])
+    ≡ Ok (Replay (record {
+      settings = record { udin_mv = 1; dip = 900; swell = 1100; interruption = 50; hysteresis = 20 };
+      channels = None;
+      reference = None;
+      cfg = codes "a";
+      dat = codes "b";
+    }) (codes "c")) ∷ Err fault.NotUnderstood ∷ []
+unfolding named_task replay_task measured settings_of said_by replay_app measuring_app clap_on_literals
+replays = refl
 
 -- a seed is one to twenty digits, at most 2^64 - 1
 pub generated_words : map task_of

@@ -1,10 +1,10 @@
 -- The subject: the commands, and the words that say them (profile).
-use Rattle.std.specs.Prelude.{ℕ, if◌then◌else◌, List, [], ◌∷◌, map, Option, option_map, Result, Ok, Err, codes, String, string_bytes}
+use Rattle.std.specs.Prelude.{ℕ, if◌then◌else◌, List, [], ◌∷◌, map, Option, Result, Ok, Err, codes, String, string_bytes}
 use Rattle.std.specs.Str.{bytes_eq}
 use Rattle.std.specs.declared.alloc.Global.{Global}
 use Rattle.clap.specs.Words.{Row, first_of}
-use Rattle.command_words.specs.Simple.{check_app, emit_app, generate_app, measuring_app, said_by}
-use Rattle.command_words.specs.Values.{channel_of, channels_of, optional, part_of, seed_of, settings_of, understood}
+use Rattle.command_words.specs.Simple.{check_app, emit_app, generate_app, measuring_app, replay_app, said_by}
+use Rattle.command_words.specs.Values.{channel_of, channels_of, numbers_view, optional, part_of, seed_of, settings_of, understood}
 use Rattle.command_words.specs.declared.command.Command.{Command}
 use Rattle.command_words.specs.declared.command.Command.TheVariants as command
 use Rattle.command_words.specs.declared.command.Measuring.{Measuring}
@@ -24,11 +24,12 @@ pub record Measurement : Type 0 where
   pub cfg : Text
   pub dat : Text
 
--- what a command is to do
+-- what a command is to do; a replay has the name of its schedule too
 pub data Task : Type 0 where
   Check : Text → Task
   Intervals : Measurement → Task
   Analyse : Measurement → Task
+  Replay : Measurement → Text → Task
   Emit : Part → ℕ → Task
   Generate : ℕ → Task
 
@@ -36,7 +37,7 @@ pub data Task : Type 0 where
 abbrev pub measuring_view : Measuring → Measurement
 measuring_view m = record {
   settings = m.settings;
-  channels = option_map (λ numbers. numbers.items) m.channels;
+  channels = numbers_view m.channels;
   reference = m.reference;
   cfg = m.cfg.now;
   dat = m.dat.now;
@@ -46,6 +47,7 @@ abbrev pub command_view : Command → Task
 command_view (command.Check cfg) = Check cfg.now
 command_view (command.Intervals m) = Intervals (measuring_view m)
 command_view (command.Analyse m) = Analyse (measuring_view m)
+command_view (command.Replay m schedule) = Replay (measuring_view m) schedule.now
 command_view (command.Emit part seed) = Emit part seed
 command_view (command.Generate seed) = Generate seed
 
@@ -68,6 +70,14 @@ measured rows = do
 -- what the words after the name of `intervals` or `analyse` say
 abbrev pub measurement_of : List Text → Result Measurement WordsFault
 measurement_of words = said_by measuring_app words >>= measured
+
+-- what the words after the name of `replay` say
+unfoldable pub replay_task : List Text → Result Task WordsFault
+replay_task words = do
+  rows ← said_by replay_app words
+  m ← measured rows
+  schedule ← understood (first_of (codes "schedule") rows)
+  Ok (Replay m schedule)
 
 -- what the words after the name of `check` say
 unfoldable pub check_task : List Text → Result Task WordsFault
@@ -102,9 +112,10 @@ named_task name words =
     if bytes_eq name (codes "check") then check_task words
     else (if bytes_eq name (codes "intervals") then then_task (λ m. Intervals m) (measurement_of words)
     else (if bytes_eq name (codes "analyse") then then_task (λ m. Analyse m) (measurement_of words)
+    else (if bytes_eq name (codes "replay") then replay_task words
     else (if bytes_eq name (codes "emit") then emit_task words
     else (if bytes_eq name (codes "generate") then generate_task words
-    else Err fault.NotUnderstood))))
+    else Err fault.NotUnderstood)))))
 
 -- the first word is the name of a command; any other words are not understood
 abbrev pub task_of : List Text → Result Task WordsFault
@@ -116,6 +127,7 @@ abbrev pub IsTask : Task → Type 0
 IsTask (Check cfg) = Unit {0}
 IsTask (Intervals m) = IsInRange m.settings
 IsTask (Analyse m) = IsInRange m.settings
+IsTask (Replay m schedule) = IsInRange m.settings
 IsTask (Emit part seed) = Unit {0}
 IsTask (Generate seed) = Unit {0}
 

@@ -1,10 +1,11 @@
 -- The subject: the words after a command's name, as one simple command of clap. Its own public definitions
 -- say which words such a command takes, and what it finds in them (profile).
 use Rattle.std.specs.Prelude.{List, [], ◌∷◌, Some, true, Result, Ok, Err, codes}
-use Rattle.clap.specs.Words.{App, Kinds, Row, Rule, fault_of, matches_of, new_app, new_rule, with_rule}
+use Rattle.clap.specs.Words.{App, Kinds, Row, Rule, fault_of, found_of, matches_of, new_app, new_rule, rows_of, with_rule}
 use Rattle.clap.specs.declared.builder.action.ArgAction.TheVariants.{Set}
 use Rattle.clap.specs.declared.error.kind.ErrorKind.{ErrorKind}
 use Rattle.clap.specs.declared.error.kind.ErrorKind.TheVariants as kind
+use Rattle.clap.specs.declared.parser.matches.ArgMatches.{ArgMatches}
 use Rattle.command_words.specs.declared.command.WordsFault.{WordsFault}
 use Rattle.command_words.specs.declared.command.WordsFault.TheVariants as fault
 use Rattle.pq_words.specs.Text.{Text}
@@ -50,10 +51,18 @@ measuring_app =
     (option_rule (codes "dip"))) (option_rule (codes "swell"))) (option_rule (codes "interruption")))
     (option_rule (codes "hysteresis"))) (positional_rule (codes "cfg"))) (positional_rule (codes "dat"))
 
+-- the same, and `SCHEDULE` behind them
+unfoldable pub replay_app : App
+replay_app = with_rule measuring_app (positional_rule (codes "schedule"))
+
 -- what was found, where no kind of error can come
 abbrev pub found_unless : Kinds → List Row → Result (List Row) WordsFault
 found_unless [] rows = Ok rows
 found_unless (k ∷ kinds) rows = Err fault.NotUnderstood
+
+-- what was found, as it is held
+abbrev pub rows_found : ArgMatches → List Row
+rows_found matches = rows_of (found_of matches)
 
 -- what such a command finds in the words, where it takes them
 unfoldable pub said_by : App → List Text → Result (List Row) WordsFault

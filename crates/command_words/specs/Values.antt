@@ -1,7 +1,10 @@
 -- The subject: the values of options (profile).
-use Rattle.std.specs.Prelude.{ℕ, ◌≤◌, ◌&&◌, nat_le, if◌then◌else◌, List, [], ◌∷◌, ◌++◌, Option, None, Some, option_and_then, Result, Ok, Err, codes}
+use Rattle.std.specs.Prelude.{ℕ, ◌≤◌, ◌&&◌, nat_le, if◌then◌else◌, List, [], ◌∷◌, ◌++◌, Option, None, Some, option_and_then, option_map, Result, Ok, Err, codes}
+use Rattle.std.specs.Borrow.{Bor}
 use Rattle.std.specs.Option.{ok_or}
 use Rattle.std.specs.Str.{bytes_eq}
+use Rattle.std.specs.declared.alloc.Global.{Global}
+use Rattle.std.specs.declared.vec.Vec.{Vec}
 use Rattle.clap.specs.Words.{Row, first_of}
 use Rattle.command_words.specs.declared.channels.TheConstants.{MOST_CHANNEL}
 use Rattle.command_words.specs.declared.command.Part.{Part}
@@ -12,8 +15,24 @@ use Rattle.command_words.specs.declared.generated.TheConstants.{MOST_SEED}
 use Rattle.command_words.specs.declared.thresholds.TheConstants.{USUAL_DIP, USUAL_HYSTERESIS, USUAL_INTERRUPTION, USUAL_SWELL}
 use Rattle.event_detect.specs.declared.limits.Settings.{Settings}
 use Rattle.event_detect.specs.declared.limits.TheConstants.{MOST_THOUSANDTHS, MOST_UDIN}
-use Rattle.pq_words.specs.FirstFault.{◌>>=◌}
+use Rattle.pq_words.specs.FirstFault.{◌>>=◌, GivesUnless}
 use Rattle.pq_words.specs.Text.{Text, digits_between, parted_at}
+
+-- what a function gives is what is read, unless it finds no memory
+abbrev pub Gives : {A : Type 0} → Result A WordsFault → Result A WordsFault → Type 0
+Gives result read = GivesUnless fault.OutOfMemory (λ x. x) result read
+
+-- the same of a value that is seen by a view
+abbrev pub GivesView : {X Y : Type 0} → (X → Y) → Result X WordsFault → Result Y WordsFault → Type 0
+GivesView view result read = GivesUnless fault.OutOfMemory view result read
+
+-- a text that may be left out, as it is held
+abbrev pub text_view : Option (Bor Text) → Option Text
+text_view text = option_map (λ t. t.now) text
+
+-- numbers that may be left out, as they are held
+abbrev pub numbers_view : Option (Vec ℕ Global) → Option (List ℕ)
+numbers_view numbers = option_map (λ v. v.items) numbers
 
 -- what isn't there is not understood
 abbrev pub understood : {A : Type 0} → Option A → Result A WordsFault

@@ -1,8 +1,6 @@
 // The numbers of channels.
-ghost use Rattle.std.specs.Prelude.{◌≡◌, ◌==◌, ◌<◌, [], ◌∷◌, length, option_map, position, IfSome, IfNone};
-ghost use Rattle.command_words.specs.Values.{channel_of, channels_of, optional};
-ghost use Rattle.command_words.specs.declared.command.WordsFault.TheVariants as fault;
-ghost use Rattle.pq_words.specs.FirstFault.{GivesUnless};
+ghost use Rattle.std.specs.Prelude.{◌≡◌, ◌==◌, ◌<◌, [], ◌∷◌, length, position, IfSome, IfNone};
+ghost use Rattle.command_words.specs.Values.{Gives, GivesView, channel_of, channels_of, numbers_view, optional, text_view};
 ghost use Rattle.pq_words.specs.Text.{parted_at};
 
 use crate::command::WordsFault;
@@ -14,8 +12,7 @@ pub(crate) const MOST_CHANNEL: u64 = 999;
 
 /// The number of a channel, where there is a text.
 pub(crate) fn optional_channel(text: Option<&str>) -> Result<Option<u32>, WordsFault>
-    ensures { GivesUnless fault.OutOfMemory (λ n. n) result
-        (optional channel_of (option_map (λ t. t.now) text.entry)) }
+    ensures { Gives result (optional channel_of (text_view text.entry)) }
 {
     match text {
         Some(text) => Ok(Some(channel_of(text.as_bytes())?)),
@@ -28,8 +25,7 @@ pub(crate) fn optional_channels(
     alloc: Global,
     text: Option<&str>,
 ) -> Result<Option<Vec<u32>>, WordsFault>
-    ensures { GivesUnless fault.OutOfMemory (λ numbers. option_map (λ v. v.items) numbers) result
-        (optional channels_of (option_map (λ t. t.now) text.entry)) }
+    ensures { GivesView numbers_view result (optional channels_of (text_view text.entry)) }
 {
     match text {
         Some(text) => Ok(Some(channels_of(alloc, text.as_bytes())?)),
@@ -39,7 +35,7 @@ pub(crate) fn optional_channels(
 
 // Numbers of channels, parted by commas.
 fn channels_of(alloc: Global, text: &[u8]) -> Result<Vec<u32>, WordsFault>
-    ensures { GivesUnless fault.OutOfMemory (λ numbers. numbers.items) result (channels_of text.now) }
+    ensures { GivesView (λ numbers. numbers.items) result (channels_of text.now) }
 {
     let mut numbers = Vec::new(alloc);
     let mut rest = text;
@@ -53,7 +49,7 @@ fn channels_of(alloc: Global, text: &[u8]) -> Result<Vec<u32>, WordsFault>
 
 // One to three digits, from 1 to 999.
 fn channel_of(text: &[u8]) -> Result<u32, WordsFault>
-    ensures { GivesUnless fault.OutOfMemory (λ n. n) result (channel_of text.now) }
+    ensures { Gives result (channel_of text.now) }
 {
     let number = number_between(text, 3, 1, MOST_CHANNEL)?;
     Ok(number as u32)

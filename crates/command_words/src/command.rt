@@ -6,15 +6,27 @@ use std::alloc::{AllocError, AllocFailed};
 #[derive(Drop)]
 pub enum Command<'a> {
     /// The canonical text of a cfg.
-    Check { cfg: &'a str },
+    Check {
+        cfg: &'a str,
+    },
     /// The report of a recording.
     Intervals(Measuring<'a>),
     /// The report of a recording, for the call that may have workers.
     Analyse(Measuring<'a>),
+    /// The answers of a schedule over a recording.
+    Replay {
+        measuring: Measuring<'a>,
+        schedule: &'a str,
+    },
     /// A file of a generated recording.
-    Emit { part: Part, seed: u64 },
+    Emit {
+        part: Part,
+        seed: u64,
+    },
     /// The summary of a generated recording, for the call that may have workers.
-    Generate { seed: u64 },
+    Generate {
+        seed: u64,
+    },
 }
 
 /// A file of a generated recording.

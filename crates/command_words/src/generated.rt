@@ -1,10 +1,8 @@
 // The words of the commands on a generated recording.
 ghost use Rattle.std.specs.Prelude.{◌≡◌, IfOk};
-ghost use Rattle.clap.specs.Words.{found_of, rows_of};
 ghost use Rattle.command_words.specs.Commands.{IsTask, command_view, emit_task, generate_task, words_view};
-ghost use Rattle.command_words.specs.Values.{part_of, seed_of};
-ghost use Rattle.command_words.specs.declared.command.WordsFault.TheVariants as fault;
-ghost use Rattle.pq_words.specs.FirstFault.{GivesUnless};
+ghost use Rattle.command_words.specs.Simple.{rows_found};
+ghost use Rattle.command_words.specs.Values.{Gives, GivesView, part_of, seed_of};
 
 use crate::command::{Command, Part, WordsFault};
 use crate::number::number_between;
@@ -19,7 +17,7 @@ pub(crate) const MOST_SEED: u64 = 18_446_744_073_709_551_615;
 /// The words of `emit`.
 #[tactic(auto, unfolding(crate::specs::Commands::emit_task))]
 pub(crate) fn read_emit<'a>(alloc: Global, words: &'a [String]) -> Result<Command<'a>, WordsFault>
-    ensures value { GivesUnless fault.OutOfMemory command_view result (emit_task (words_view words.now)) }
+    ensures value { GivesView command_view result (emit_task (words_view words.now)) }
     ensures within { IfOk result (λ command. IsTask (command_view command)) }
 {
     let Ok(command) = emit_command(alloc) else {
@@ -41,7 +39,7 @@ pub(crate) fn read_generate<'a>(
     alloc: Global,
     words: &'a [String],
 ) -> Result<Command<'a>, WordsFault>
-    ensures value { GivesUnless fault.OutOfMemory command_view result (generate_task (words_view words.now)) }
+    ensures value { GivesView command_view result (generate_task (words_view words.now)) }
     ensures within { IfOk result (λ command. IsTask (command_view command)) }
 {
     let Ok(command) = generate_command(alloc) else {
@@ -71,7 +69,7 @@ fn part_of(text: &str) -> Result<Part, WordsFault>
 
 // One to twenty digits, at most 2^64 - 1.
 fn seed_of(matches: &ArgMatches<'_>) -> Result<u64, WordsFault>
-    ensures { GivesUnless fault.OutOfMemory (λ n. n) result (seed_of (rows_of (found_of matches.now))) }
+    ensures { Gives result (seed_of (rows_found matches.now)) }
 {
     let seed = required(matches, "seed")?;
     number_between(seed.as_bytes(), 20, 0, MOST_SEED)

@@ -1,12 +1,11 @@
 // The words that say a command.
 ghost use Rattle.std.specs.Prelude.{IfOk};
 ghost use Rattle.command_words.specs.Commands.{IsTask, check_task, command_view, named_task, task_of, words_view};
-ghost use Rattle.command_words.specs.declared.command.WordsFault.TheVariants as fault;
-ghost use Rattle.pq_words.specs.FirstFault.{GivesUnless};
+ghost use Rattle.command_words.specs.Values.{GivesView};
 
 use crate::command::{Command, WordsFault};
 use crate::generated::{read_emit, read_generate};
-use crate::measuring::read_measuring;
+use crate::measuring::{read_measuring, read_replay};
 use crate::simple::{check_command, matches_of};
 use crate::values::required;
 use std::alloc::Global;
@@ -19,7 +18,7 @@ use std::alloc::Global;
 /// [`WordsFault::NotUnderstood`] where no command has this name, where clap does not take the words after it,
 /// or where a value is outside its grammar or its range. [`WordsFault::OutOfMemory`] may come with any words.
 pub fn read_words<'a>(alloc: Global, words: &'a [String]) -> Result<Command<'a>, WordsFault>
-    ensures value { GivesUnless fault.OutOfMemory command_view result (task_of (words_view words.now)) }
+    ensures value { GivesView command_view result (task_of (words_view words.now)) }
     ensures within { IfOk result (λ command. IsTask (command_view command)) }
 {
     match words.split_first() {
@@ -31,8 +30,7 @@ pub fn read_words<'a>(alloc: Global, words: &'a [String]) -> Result<Command<'a>,
 // The command of this name, with the words after it.
 #[tactic(auto, unfolding(crate::specs::Commands::named_task))]
 fn read_named<'a>(alloc: Global, name: &str, words: &'a [String]) -> Result<Command<'a>, WordsFault>
-    ensures value { GivesUnless fault.OutOfMemory command_view result
-        (named_task name.now (words_view words.now)) }
+    ensures value { GivesView command_view result (named_task name.now (words_view words.now)) }
     ensures within { IfOk result (λ command. IsTask (command_view command)) }
 {
     if name == "check" {
@@ -50,6 +48,9 @@ fn read_named<'a>(alloc: Global, name: &str, words: &'a [String]) -> Result<Comm
             Err(why) => Err(why),
         };
     }
+    if name == "replay" {
+        return read_replay(alloc, words);
+    }
     if name == "emit" {
         return read_emit(alloc, words);
     }
@@ -62,7 +63,7 @@ fn read_named<'a>(alloc: Global, name: &str, words: &'a [String]) -> Result<Comm
 // The words of `check`.
 #[tactic(auto, unfolding(crate::specs::Commands::check_task))]
 fn read_check<'a>(alloc: Global, words: &'a [String]) -> Result<Command<'a>, WordsFault>
-    ensures value { GivesUnless fault.OutOfMemory command_view result (check_task (words_view words.now)) }
+    ensures value { GivesView command_view result (check_task (words_view words.now)) }
     ensures within { IfOk result (λ command. IsTask (command_view command)) }
 {
     let Ok(command) = check_command(alloc) else {

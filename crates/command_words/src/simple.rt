@@ -1,10 +1,9 @@
 // The words after a command's name, as one simple command of clap.
 ghost use Rattle.std.specs.Prelude.{◌≡◌, IfOk, false, true};
-ghost use Rattle.clap.specs.Words.{app_of, found_of, is_simple_and_free, kind_of, rows_of, rule_of, with_rule};
+ghost use Rattle.clap.specs.Words.{app_of, is_simple_and_free, kind_of, rule_of, with_rule};
 ghost use Rattle.command_words.specs.Commands.{words_view};
-ghost use Rattle.command_words.specs.Simple.{bare_app, check_app, emit_app, generate_app, kind_fault, measuring_app, option_rule, positional_rule, required, said_by};
-ghost use Rattle.command_words.specs.declared.command.WordsFault.TheVariants as fault;
-ghost use Rattle.pq_words.specs.FirstFault.{GivesUnless};
+ghost use Rattle.command_words.specs.Simple.{bare_app, check_app, emit_app, generate_app, kind_fault, measuring_app, option_rule, positional_rule, replay_app, required, rows_found, said_by};
+ghost use Rattle.command_words.specs.Values.{GivesView};
 
 use crate::command::WordsFault;
 use clap::error::ErrorKind;
@@ -17,8 +16,7 @@ pub(crate) fn matches_of<'a>(
     words: &'a [String],
 ) -> Result<ArgMatches<'a>, WordsFault>
     requires { is_simple_and_free (app_of command) ≡ true }
-    ensures { GivesUnless fault.OutOfMemory (λ matches. rows_of (found_of matches)) result
-        (said_by (app_of command.entry) (words_view words.now)) }
+    ensures { GivesView rows_found result (said_by (app_of command.entry) (words_view words.now)) }
 {
     match command.try_get_matches_from(words) {
         Ok(matches) => Ok(matches),
@@ -74,6 +72,15 @@ pub(crate) fn measuring_command<'a>(alloc: Global) -> Result<Command<'a>, AllocE
     let command = with_option(alloc, command, "hysteresis")?;
     let command = with_positional(alloc, command, "cfg")?;
     with_positional(alloc, command, "dat")
+}
+
+/// Options, and `CFG DAT SCHEDULE`.
+#[tactic(auto, unfolding(crate::specs::Simple::replay_app))]
+pub(crate) fn replay_command<'a>(alloc: Global) -> Result<Command<'a>, AllocError>
+    ensures { IfOk result (λ command. app_of command ≡ replay_app) }
+{
+    let command = measuring_command(alloc)?;
+    with_positional(alloc, command, "schedule")
 }
 
 // No option and no positional, and neither help nor version.

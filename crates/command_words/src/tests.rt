@@ -198,6 +198,35 @@ fn measurements_that_are_not_understood(rt: HostRuntime) -> Result<(), Fail> {
     Ok(())
 }
 
+// `replay` has the options of a measurement, and a third positional.
+#[test]
+fn replays(rt: HostRuntime) -> Result<(), Fail> {
+    let alloc = rt.alloc();
+    for (words, schedule) in [
+        ("--udin 230000 a.cfg a.dat a.txt", "a.txt"),
+        ("a.cfg a.dat - --udin=230000", "-"),
+        ("a.cfg --udin 230000 -- a.dat -a.txt", "-a.txt"),
+        ("a.cfg a.dat a.txt", ""),
+        ("--udin 230000 a.cfg a.dat", ""),
+        ("--udin 230000 a.cfg a.dat a.txt b.txt", ""),
+        ("--udin 230000 a.cfg a.dat -a.txt", ""),
+        ("--udin 0 a.cfg a.dat a.txt", ""),
+    ] {
+        let words = strings(alloc, "replay", words)?;
+        let said = match read_words(alloc, &words) {
+            Ok(
+                Command::Replay {
+                    measuring,
+                    schedule,
+                },
+            ) if is_said(&measuring, &PLAIN) => schedule,
+            _ => "",
+        };
+        assert_eq!(rt; said, schedule, "{words:?}");
+    }
+    Ok(())
+}
+
 // `check` has one positional and no option; other names are no commands.
 #[test]
 fn names(rt: HostRuntime) -> Result<(), Fail> {

@@ -1,11 +1,9 @@
 // The settings: the declared voltage, and the thresholds and the hysteresis in thousandths of it.
-ghost use Rattle.std.specs.Prelude.{◌≡◌, ◌≤◌, IfOk, option_map};
-ghost use Rattle.clap.specs.Words.{found_of, rows_of};
-ghost use Rattle.command_words.specs.Values.{IsBetween, settings_of, thousandths_or, usual_settings};
-ghost use Rattle.command_words.specs.declared.command.WordsFault.TheVariants as fault;
+ghost use Rattle.std.specs.Prelude.{◌≡◌, ◌≤◌, IfOk};
+ghost use Rattle.command_words.specs.Simple.{rows_found};
+ghost use Rattle.command_words.specs.Values.{Gives, IsBetween, settings_of, text_view, thousandths_or, usual_settings};
 ghost use Rattle.event_detect.specs.Threshold.{IsInRange};
 ghost use Rattle.event_detect.specs.declared.limits.TheConstants.{MOST_UDIN};
-ghost use Rattle.pq_words.specs.FirstFault.{GivesUnless};
 
 use crate::command::WordsFault;
 use crate::number::number_between;
@@ -40,8 +38,7 @@ pub fn usual_settings(udin_mv: u64) -> Settings
 /// The settings that the options say.
 #[tactic(auto, unfolding(crate::specs::Values::settings_of))]
 pub(crate) fn settings_of(matches: &ArgMatches<'_>) -> Result<Settings, WordsFault>
-    ensures value { GivesUnless fault.OutOfMemory (λ s. s) result
-        (settings_of (rows_of (found_of matches.now))) }
+    ensures value { Gives result (settings_of (rows_found matches.now)) }
     ensures within { IfOk result IsInRange }
 {
     let udin = required(matches, "udin")?;
@@ -62,8 +59,7 @@ pub(crate) fn settings_of(matches: &ArgMatches<'_>) -> Result<Settings, WordsFau
 // One to four digits, at most 2000; the usual value where there is no text.
 fn thousandths_or(text: Option<&str>, usual: u32) -> Result<u32, WordsFault>
     requires { usual ≤ MOST_THOUSANDTHS }
-    ensures value { GivesUnless fault.OutOfMemory (λ n. n) result
-        (thousandths_or usual (option_map (λ t. t.now) text.entry)) }
+    ensures value { Gives result (thousandths_or usual (text_view text.entry)) }
     ensures within { IfOk result (λ n. n ≤ MOST_THOUSANDTHS) }
 {
     let Some(text) = text else {

@@ -53,6 +53,14 @@ returns-in-Ok-Generate g c =
     ∙ sym c.in-Ok-Generate.ensures.value)
     (refused status.Usage r tt (quiet g.K.Shelf c.args.shelf.now))
 
+pub returns-in-Ok-Replay : goal.returns-in-Ok-Replay
+returns-in-Ok-Replay g c =
+    let r : Reading = reading_of g.K.Shelf c.args.shelf.now c.args.shelf.now in
+    subst (λ (task : Result Task WordsFault). IsRead (still_task_course task) r (Err status.Usage))
+    (ap (λ (x : Command). Ok (command_view x)) (sym c.in-Ok-Replay.field-0-is)
+    ∙ sym c.in-Ok-Replay.ensures.value)
+    (refused status.Usage r tt (quiet g.K.Shelf c.args.shelf.now))
+
 -- there is no memory for what they say
 pub returns : goal.returns
 returns g c = out_of_memory (still_course c.args.words.now) _ (quiet g.K.Shelf c.args.shelf.now)
