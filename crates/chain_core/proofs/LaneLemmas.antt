@@ -28,6 +28,9 @@ detector_at r lane inside odd =
     let c : lane / 2 < channel_count r = omega arith in
     ap (keys_at r) e ∙ ap (map lane_key) (detector_lane r (lane / 2) c)
 
+-- all of them
+pub ruleset keys_by_lane = (frequency_at, sampler_at, detector_at)
+
 -- there are few lanes
 pub few_lanes : (r : Recorded) → IsRecording r → length (recorded_keys r) < 2 ^ 32
 few_lanes r h =

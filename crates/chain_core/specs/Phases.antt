@@ -140,17 +140,23 @@ after_session_try p session =
     then with_turn (with_session p session (in_phase session_phase.Holding)) (length p.lanes + 1)
     else with_session p session (in_phase session_phase.Idle)
 
+-- the phases after a session's load of the stop word: it begins to look, unless a halt came before
+abbrev pub after_session_stop_load : Phases → ℕ → Phases
+after_session_stop_load p session = if p.is_halted then p else with_session p session begins_to_look
+
+-- the phases with one session more
+abbrev pub with_new_session : Phases → Phases
+with_new_session p = record p { sessions = p.sessions ++ new_session (length p.lanes) ∷ [] }
+
 -- the phases after an event that is allowed
 abbrev pub phases_after : Phases → CoreEvent → Phases
 phases_after p (event.LaneStopLoad lane) = p
 phases_after p (event.LaneTry lane) = after_lane_try p lane
 phases_after p (event.Post lane most) = with_turn (with_lane p lane lane_phase.Posted) 0
 phases_after p (event.Raise lane) = with_lane p lane lane_phase.Idle
-phases_after p (event.SessionStopLoad session) =
-    if p.is_halted then p else with_session p session begins_to_look
+phases_after p (event.SessionStopLoad session) = after_session_stop_load p session
 phases_after p (event.SessionTry session) = after_session_try p session
 phases_after p (event.Load session lane) = with_session p session (λ s. loads_lane lane s.phase s.loaded)
 phases_after p (event.Read session) = with_turn (with_session p session (in_phase session_phase.Idle)) 0
-phases_after p (event.Split session) =
-    record p { sessions = p.sessions ++ new_session (length p.lanes) ∷ [] }
+phases_after p (event.Split session) = with_new_session p
 phases_after p (event.Halt session) = record p { is_halted = true }

@@ -51,7 +51,7 @@ fn keys_by_lane(
 }
 
 // The keys of one lane.
-#[tactic(auto, using(crate::proofs::LaneLemmas::frequency_at, crate::proofs::LaneLemmas::sampler_at, crate::proofs::LaneLemmas::detector_at))]
+#[tactic(auto, using(crate::proofs::LaneLemmas::keys_by_lane))]
 fn lane_keys(
     alloc: Global,
     recording: &Recording,

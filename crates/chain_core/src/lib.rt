@@ -4,7 +4,9 @@
 pub use answer::{Answer, PlayFault};
 pub use core_event::CoreEvent;
 pub use laws::{cores_are_sound, reads_are_right, sessions_are_given_the_result};
+pub use least_word::{least, least_lane};
 pub use limits::MOST_SESSIONS;
+pub use machine::Machine;
 pub use measured::measure;
 pub use measurement::{LaneKeys, Measurement};
 pub use phase::{LanePhase, SessionPhase};
@@ -18,6 +20,7 @@ mod cycles;
 mod fronts;
 mod lane_keys;
 mod laws;
+mod least_word;
 mod limits;
 mod machine;
 mod measured;

@@ -2,7 +2,6 @@
 ghost use Rattle.std.specs.Prelude.{◌≡◌, ◌<◌, ◌^◌, IfOk, IsTrue};
 ghost use Rattle.chain_core.specs.Phases.{has_room};
 ghost use Rattle.chain_core.specs.Core.{stop_answer, try_answer};
-ghost use Rattle.chain_core.specs.Play.{event_of, taken_lane};
 
 use crate::answer::Answer;
 use crate::core_event::CoreEvent;
@@ -13,7 +12,7 @@ use crate::step::Step;
 use std::alloc::{AllocError, Global};
 use std::marker::Model;
 
-/// The state of the core: its phases and its numbers.
+/// The core of lanes and sessions, which plays steps one by one: its phases and its numbers.
 #[derive(Drop)]
 pub struct Machine {
     phases: PhaseTable,
@@ -32,7 +31,7 @@ impl Machine {
     ghost use Rattle.chain_core.specs.Core.{answer_of, happens, start_core};
     ghost use Rattle.chain_core.specs.Play.{Did, takes, takes_turn};
 
-    /// The core at the start.
+    /// The core of so many lanes at the start, with one session.
     pub fn new(alloc: Global, lanes: usize) -> Result<Machine, AllocError>
         requires { lanes < 2 ^ 32 }
         ensures { IfOk result (λ m. m ≡ start_core lanes) }
@@ -43,7 +42,7 @@ impl Machine {
         })
     }
 
-    /// One step: its answer, where it is allowed.
+    /// Takes one step over a measurement: its answer, or `None` where it isn't allowed.
     #[tactic(auto, unfolding(crate::specs::Play::takes))]
     pub fn step(
         &mut self,
@@ -53,11 +52,11 @@ impl Machine {
     ) -> Result<Option<Answer>, AllocError>
         ensures { IfOk result (λ a. Did (takes measurement.now self.old step) a self.new) }
     {
-        let event = event_of(step);
+        let event = step.event();
         if !self.phases.has_room(event) {
             return Ok(None);
         }
-        match taken_lane(step) {
+        match step.taken_lane() {
             Some(lane) => self.take_turn(measurement, lane, alloc),
             None => self.happen(measurement, event, alloc),
         }
@@ -149,32 +148,5 @@ fn try_answer(turn: u64) -> Answer
         Answer::Held
     } else {
         Answer::Busy { word: turn }
-    }
-}
-
-// The lane that a step takes, if it is a take.
-fn taken_lane(step: Step) -> Option<u32>
-    ensures { result ≡ taken_lane step }
-{
-    match step {
-        Step::Take { lane } => Some(lane),
-        _ => None,
-    }
-}
-
-// The event with which a step begins.
-fn event_of(step: Step) -> CoreEvent
-    ensures { result ≡ event_of step }
-{
-    match step {
-        Step::Take { lane } => CoreEvent::LaneStopLoad { lane },
-        Step::Post { lane, most } => CoreEvent::Post { lane, most },
-        Step::Raise { lane } => CoreEvent::Raise { lane },
-        Step::LoadStop { session } => CoreEvent::SessionStopLoad { session },
-        Step::Load { session, lane } => CoreEvent::Load { session, lane },
-        Step::Grab { session } => CoreEvent::SessionTry { session },
-        Step::Read { session } => CoreEvent::Read { session },
-        Step::Split { session } => CoreEvent::Split { session },
-        Step::Halt { session } => CoreEvent::Halt { session },
     }
 }

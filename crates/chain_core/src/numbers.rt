@@ -1,10 +1,10 @@
 // The numbers of the core.
-ghost use Rattle.std.specs.Prelude.{◌≡◌, ◌<◌, ◌≤◌, ◌^◌, ◌==◌, length, min, position, slice_index, unwrap_or, IfOk, IfSome, OnOk};
-ghost use Rattle.std.specs.List.{fold};
-ghost use Rattle.chain_core.specs.Core.{least, least_lane, mark_after, unreleased};
+ghost use Rattle.std.specs.Prelude.{◌≡◌, ◌<◌, ◌^◌, length, slice_index, IfOk, OnOk};
+ghost use Rattle.chain_core.specs.Core.{mark_after, unreleased};
 
 use crate::answer::Answer;
 use crate::core_event::CoreEvent;
+use crate::least_word::{least, least_lane};
 use crate::measurement::Measurement;
 use std::alloc::{AllocError, Global};
 use std::marker::Model;
@@ -272,53 +272,6 @@ impl NumberTable {
     }
 }
 
-// The least of some words.
-fn least(words: &[u64]) -> u64
-    ensures { result ≡ least words.now }
-{
-    match words.split_first() {
-        Some((first, others)) => least_from(*first, others),
-        None => 0,
-    }
-}
-
-// The least of a word and others.
-fn least_from(first: u64, others: &[u64]) -> u64
-    ensures { result ≡ fold min first others.now }
-{
-    let mut least = first;
-    for word in others {
-        least = least.min(*word);
-    }
-    least
-}
-
-// The first lane that has the least word.
-fn least_lane(words: &[u64]) -> u32
-    requires { length words.now < 2 ^ 32 }
-    ensures { result ≡ least_lane words.now }
-{
-    first_lane(words, least(words)) as u32
-}
-
-// The first lane that has a word, or 0.
-fn first_lane(words: &[u64], least: u64) -> usize
-    ensures value { result ≡ unwrap_or (position (λ w. w == least) words.now) 0 }
-    ensures within { result ≤ length words.now }
-{
-    match lane_of(words, least) {
-        Some(lane) => lane,
-        None => 0,
-    }
-}
-
-fn lane_of(words: &[u64], least: u64) -> Option<usize>
-    ensures value { result ≡ position (λ w. w == least) words.now }
-    ensures within { IfSome result (λ lane. lane < length words.now) }
-{
-    words.iter().position(|word| *word == least)
-}
-
 // The mark after a read of such words.
 fn mark_of(mark: u64, words: &[u64]) -> u64
     ensures { result ≡ mark_after mark words.now }
@@ -336,7 +289,7 @@ fn unreleased_answer(measurement: &Measurement, words: &[u64]) -> Answer
         Answer::End
     } else {
         Answer::Withheld {
-            lane: least_lane(words),
+            lane: least_lane(words) as u32,
             word,
         }
     }

@@ -98,10 +98,10 @@ impl SessionEntry {
 }
 
 impl PhaseTable {
-    ghost use Rattle.std.specs.Prelude.{◌++◌, ◌∷◌, [], nat_lt, length, if◌then◌else◌};
+    ghost use Rattle.std.specs.Prelude.{nat_lt, length};
     ghost use Rattle.chain_core.specs.declared.phase.LanePhase.TheVariants as lane_phase;
     ghost use Rattle.chain_core.specs.declared.phase.SessionPhase.TheVariants as session_phase;
-    ghost use Rattle.chain_core.specs.Phases.{after_lane_try, after_session_try, begins_to_look, has_room, in_phase, is_holding_lane, is_holding_session, is_idle_lane, is_idle_session, is_looked_session, is_posted_lane, lane_is, loads_lane, may_load, new_session, session_is, with_lane, with_session, with_turn};
+    ghost use Rattle.chain_core.specs.Phases.{after_lane_try, after_session_stop_load, after_session_try, has_room, in_phase, is_holding_lane, is_holding_session, is_idle_lane, is_idle_session, is_looked_session, is_posted_lane, lane_is, loads_lane, may_load, session_is, with_lane, with_new_session, with_session, with_turn};
 
     /// All idle, the turn free, and one session.
     pub fn new(alloc: Global, lanes: usize) -> Result<PhaseTable, AllocError>
@@ -286,8 +286,7 @@ impl PhaseTable {
     }
 
     fn look(&mut self, session: u32)
-        ensures { self.new
-            ≡ (if self.old.is_halted then self.old else with_session self.old session begins_to_look) }
+        ensures { self.new ≡ after_session_stop_load self.old session }
     {
         if self.is_halted {
             return;
@@ -324,8 +323,7 @@ impl PhaseTable {
     }
 
     fn split(&mut self, alloc: Global) -> Result<(), AllocError>
-        ensures { OnOk result (self.new
-            ≡ record self.old { sessions = self.old.sessions ++ new_session (length self.old.lanes) ∷ [] }) }
+        ensures { OnOk result (self.new ≡ with_new_session self.old) }
     {
         self.sessions
             .push(SessionEntry::new(alloc, self.lanes.len())?)?;

@@ -1,6 +1,6 @@
 use Rattle.std.proofs.Common.{◌≡◌, min, drop}
 use Rattle.std.specs.List.{fold}
-use Rattle.chain_core.proofs.numbers.least_from.Given as goal
+use Rattle.chain_core.proofs.least_word.least_from.Given as goal
 
 -- the least so far, and those that are left, give the least of all
 abbrev pub invariant-loop-word : goal.invariant-loop-word
