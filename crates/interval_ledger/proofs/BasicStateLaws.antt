@@ -1,8 +1,7 @@
 -- The state of merging after one basic interval more: which one it is, and that it may be fed.
-use Rattle.std.proofs.Common.{◌≡◌, ℕ, zero, suc, ◌+◌, ◌-◌, ◌<◌, ◌≤◌, Bool, true, List, [], ◌∷◌, ◌++◌, length, map, take, drop, Option, None, Some, IfSome, option_and_then, slice_get, refl, sym, ◌∙◌, ap, subst, inl, inr, arith}
-use Rattle.std.specs.List.{AllByRecursion, list_any}
+use Rattle.std.proofs.Common.{◌≡◌, ℕ, suc, ◌+◌, ◌<◌, ◌≤◌, Bool, List, [], ◌∷◌, ◌++◌, length, map, take, Option, None, Some, IfSome, option_and_then, slice_get, refl, sym, ◌∙◌, ap, subst, arith}
+use Rattle.std.specs.List.{list_any}
 use Rattle.std.specs.Option.{option_map_or}
-use Rattle.std.proofs.lemmas.List.{length-map}
 use Rattle.aggregate.specs.Aggregation.{Basic, parts_of}
 use Rattle.aggregate.specs.Aggregator.{MayFollow}
 use Rattle.aggregate.specs.BasicOrder.{AreBasics, basic_of}
@@ -15,7 +14,7 @@ use Rattle.interval_ledger.specs.Channel.{ChannelView}
 use Rattle.interval_ledger.specs.Known.{AddsBasic, IsKnown, KeepsName, KnownView}
 use Rattle.interval_ledger.specs.Merged.{all_basics}
 use Rattle.interval_ledger.specs.Merging.{HasPosted, IsMerging, IsNext, NoneBefore, due_left, latest_start, merged_by, start_after}
-use Rattle.interval_ledger.specs.Posted.{merged_of, root_at}
+use Rattle.interval_ledger.specs.Posted.{all_roots, merged_of, root_at}
 use Rattle.interval_ledger.specs.Segment.{SegmentsView, is_first_of_segment}
 use Rattle.interval_ledger.specs.Watch.{TellsTouch}
 use Rattle.interval_ledger.proofs.FedLaws.{may_feed}
@@ -30,7 +29,6 @@ use Rattle.polyphase.specs.PolyphaseEvent.{kinds}
 use Rattle.pq_base.specs.Recorded.{sample_count}
 use Rattle.pq_sequence.specs.MeasuredRecording.{channel_count, clock_of, recorded_events, recorded_places, recorded_windows}
 use Rattle.pq_words.specs.Steps.{numbers_below}
-use Rattle.pq_words.proofs.StepLaws.{length_numbers}
 use Rattle.settled_laws.specs.Touch.{touches_now}
 use Rattle.settled_laws.proofs.BasicLaws.{is_new}
 use Rattle.settled_laws.proofs.BuildLaws.{last_start}
@@ -113,7 +111,7 @@ module _ (old : Merging) (posted : HasPosted old) (at : IsMerging old) (first : 
   pub basic_is : (front flagged : Bool) (values : List ℕ) → NoneBefore old first.end →
       front ≡ is_first_of_segment old.segments.places old.segments.before first.start →
       TellsTouch old.known.watch first.start flagged →
-      values ≡ map (root_at old.channels.items old.basics_merged) (numbers_below (length old.channels.items)) →
+      values ≡ all_roots old.channels.items old.basics_merged →
       basic_of front (record { start = first.start; end = first.end }) values flagged ≡ due_basic
   basic_is front flagged values none tells_front tells are =
       let r = old.known.recording in

@@ -1,5 +1,5 @@
 -- What is posted stays posted, and what is due stays due, where the channels' values and windows stay.
-use Rattle.std.proofs.Common.{◌≡◌, ℕ, zero, suc, ◌+◌, ◌*◌, ◌<◌, ◌≤◌, List, [], ◌∷◌, length, map, Option, None, Some, option_map, option_and_then, IsSome, slice_get, slice_set, refl, sym, ◌∙◌, ap, subst, inl, inr, arith}
+use Rattle.std.proofs.Common.{◌≡◌, ℕ, zero, suc, ◌+◌, ◌*◌, ◌≤◌, List, [], ◌∷◌, length, map, Option, None, Some, option_map, option_and_then, IsSome, slice_get, slice_set, refl, sym, ◌∙◌, ap, subst, inl, inr, arith}
 use Rattle.std.proofs.lemmas.List.{length-map}
 use Rattle.event_detect.specs.declared.window.Window.{Window}
 use Rattle.freq10s.specs.declared.reading.Reading.{Reading}

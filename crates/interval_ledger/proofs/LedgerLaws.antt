@@ -1,8 +1,7 @@
 -- A ledger goes on being one after a post and after an advance.
-use Rattle.std.proofs.Common.{◌≡◌, ◌⊎◌, ℕ, zero, suc, ◌+◌, ◌*◌, ◌/◌, ◌<◌, ◌≤◌, max, List, [], ◌∷◌, ◌++◌, length, map, take, drop, Option, None, Some, slice_get, slice_index, slice_set, Result, Ok, Err, OnOk, OnErr, refl, sym, ◌∙◌, ap, subst, inl, inr, arith}
+use Rattle.std.proofs.Common.{◌≡◌, ◌⊎◌, ℕ, zero, suc, ◌+◌, ◌*◌, ◌/◌, ◌<◌, ◌≤◌, max, List, [], ◌∷◌, ◌++◌, length, map, drop, Some, slice_get, slice_index, slice_set, Result, Ok, Err, OnOk, OnErr, refl, sym, ◌∙◌, ap, subst, inl, inr, arith}
 use Rattle.std.specs.declared.alloc.Global.{Global}
 use Rattle.std.specs.declared.vec.Vec.{Vec}
-use Rattle.std.specs.Option.{option_map_or}
 use Rattle.std.proofs.lemmas.Bool.{cases_lt}
 use Rattle.std.proofs.lemmas.List.{length-append, length-map, length-take}
 use Rattle.std.proofs.lemmas.Option.{slice_get_within}
@@ -16,7 +15,7 @@ use Rattle.interval_ledger.specs.Channel.{ChannelView, with_value, with_window}
 use Rattle.interval_ledger.specs.Count.{HasPlace, HasRoom, PutsItem, counts_of}
 use Rattle.interval_ledger.specs.IsLedger.{IsLedger, settlement_of}
 use Rattle.interval_ledger.specs.Left.{IsLeft}
-use Rattle.interval_ledger.specs.Merging.{HasEnded, HasPosted, HoldsCut, IsMerging, IsWithinReach, KeepsPosted}
+use Rattle.interval_ledger.specs.Merging.{HasEnded, HoldsCut, IsMerging, KeepsPosted}
 use Rattle.interval_ledger.specs.Posted.{AreFirst, ArePosted, AreWithinReach, IsPostedOf, merged_of, value_item}
 use Rattle.interval_ledger.specs.Queue.{Queued, with_item}
 use Rattle.interval_ledger.specs.Settlement.{SettlementView, with_mark}
@@ -24,12 +23,12 @@ use Rattle.interval_ledger.proofs.CountLaws.{by_item, counts-length, detector_co
 use Rattle.interval_ledger.proofs.PostedLaws.{first_more}
 use Rattle.lanes.specs.declared.lane_item.LaneItem.{LaneItem}
 use Rattle.lanes.specs.declared.lane_item.LaneItem.TheVariants as item
-use Rattle.lanes.specs.Lane.{IsWithinReaches, detector_items, frequency_items, lane_count, lane_items, reach, recorded_readings, sampler_items, windows_at}
+use Rattle.lanes.specs.Lane.{IsWithinReaches, lane_count, lane_items, reach, recorded_readings, sampler_items, windows_at}
 use Rattle.lanes.proofs.LaneLaws.{detector_lane, frequency_lane, sampler_lane}
 use Rattle.lanes.proofs.ReachLaws.{reach_rises}
 use Rattle.polyphase.specs.PolyphaseEvent.{merged_windows}
 use Rattle.pq_base.specs.Recorded.{Recorded, IsRecording}
-use Rattle.pq_sequence.specs.MeasuredRecording.{channel_count, positions, recorded_windows}
+use Rattle.pq_sequence.specs.MeasuredRecording.{channel_count, positions}
 use Rattle.pq_sequence.specs.SequentialResult.{cut, sequential}
 
 -- ---- lists
@@ -209,8 +208,8 @@ module _ (r : Recorded) (given : IsRecording r) (mark : ℕ) (next : ℕ → ℕ
     within = record {
       samplers = of_each (λ p c. mark ≤ reach r (2 * p) (length c.values.items)) p new
           (let before = fine.within.samplers p c at in
-          let rises = reach_rises r given (2 * p) (length c.values.items) (length new.values.items) more_values in
-          omega (arith, before, rises)) fine.within.samplers;
+          let rises = reach_rises r given (2 * p) (length c.values.items) (length new.values.items)
+          more_values in omega (arith, before, rises)) fine.within.samplers;
       detectors = of_each (λ p c. mark ≤ reach r (2 * p + 1) (length c.windows.items)) p new
           (let before = fine.within.detectors p c at in
           let rises = reach_rises r given (2 * p + 1) (length c.windows.items) (length new.windows.items)
@@ -327,7 +326,8 @@ module _ (s : Merging) (ledger : IsLedger s) (lane : ℕ) (i : LaneItem)
   pub has_place : HasPlace channels readings lane i
   has_place =
       by_item r lane count (HasPlace channels readings lane)
-      (λ twice inside start end value got. let found = channel r channels readings.items posted (lane / 2) inside in
+      (λ twice inside start end value got.
+      let found = channel r channels readings.items posted (lane / 2) inside in
       let many = sampler_count channels readings.items lane (lane / 2) found.0 twice found.1 in
       let less = slice_get_within (sampler_items r (lane / 2)) count (item.Value start end value) got in
       let room = ledger.room.values (lane / 2) found.0 found.1 in

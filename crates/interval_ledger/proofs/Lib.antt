@@ -26,5 +26,6 @@ pub mod ReadingLaws
 pub mod CountLaws
 pub mod KeptLaws
 pub mod StateLaws
+pub mod JoinLaws
 pub mod BasicStateLaws
 pub mod LedgerLaws

@@ -1,5 +1,5 @@
 -- The state of merging: what a step leaves as it is, and what holds after it.
-use Rattle.std.proofs.Common.{◌≡◌, ℕ, zero, suc, ◌+◌, ◌-◌, ◌*◌, ◌^◌, ◌<◌, ◌≤◌, ◌⊎◌, max, List, [], ◌∷◌, length, map, take, drop, Option, None, Some, option_and_then, slice_get, slice_index, slice_set, sum_by, get_or, refl, sym, ◌∙◌, ap, subst, inl, inr, arith}
+use Rattle.std.proofs.Common.{◌≡◌, ℕ, zero, suc, ◌+◌, ◌-◌, ◌*◌, ◌^◌, ◌<◌, ◌≤◌, max, List, [], ◌∷◌, length, map, take, drop, Option, None, Some, option_and_then, slice_get, slice_index, sum_by, get_or, refl, sym, ◌∙◌, ap, subst, inl, inr, arith}
 use Rattle.std.specs.Option.{option_map_or}
 use Rattle.std.specs.List.{AllByRecursion}
 use Rattle.std.specs.declared.alloc.Global.{Global}
@@ -14,13 +14,12 @@ use Rattle.freq10s.specs.declared.reading.Reading.{Reading}
 use Rattle.interval_ledger.specs.declared.merging.Merging.{Merging}
 use Rattle.interval_ledger.specs.declared.next_due.Due.{Due}
 use Rattle.interval_ledger.specs.declared.next_due.Due.TheVariants as due
-use Rattle.interval_ledger.specs.Added.{with_reading, with_window}
 use Rattle.interval_ledger.specs.Channel.{ChannelView, first_start, first_starts, with_merged}
 use Rattle.interval_ledger.specs.Earliest.{IsFirstLeast}
 use Rattle.interval_ledger.specs.Known.{AddsReading, AddsWindow, Ends, IsKnown, IsNextWindow, KeepsKnown, KeepsName, KnownView, MovesMark}
 use Rattle.interval_ledger.specs.Left.{IsLeft}
 use Rattle.interval_ledger.specs.Merged.{IsSettled, Merged, all_basics}
-use Rattle.interval_ledger.specs.Merging.{HasEnded, HasMerged, HasPosted, HoldsCut, IsDue, IsMerging, IsNext, IsWithinReach, KeepsPosted, MayMergeUntil, MergesWindows, NoneBefore, TakesWindow, count_left, due_left, first_left, latest_start, left_of, merged_by}
+use Rattle.interval_ledger.specs.Merging.{HasMerged, HasPosted, HoldsCut, IsDue, IsMerging, IsNext, IsWithinReach, KeepsPosted, MayMergeUntil, MergesWindows, NoneBefore, TakesWindow, count_left, due_left, first_left, latest_start, left_of, merged_by}
 use Rattle.interval_ledger.specs.NextDue.{IsNextDue}
 use Rattle.interval_ledger.specs.Posted.{ArePosted, AreWithinReach, due_end, merged_of}
 use Rattle.interval_ledger.specs.Queue.{Queued}

@@ -1,8 +1,6 @@
 -- What contracts see of how many items of each lane are posted, of the room for them, and of a post. Profile.
 use Rattle.std.specs.Prelude.{◌≡◌, ℕ, ◌/◌, ◌<◌, ◌≤◌, List, [], ◌∷◌, length, Some, slice_get, slice_set}
-use Rattle.event_detect.specs.declared.window.Window.{Window}
 use Rattle.freq10s.specs.declared.reading.Reading.{Reading}
-use Rattle.interval_ledger.specs.declared.channel.SpanValue.{SpanValue}
 use Rattle.interval_ledger.specs.Channel.{ChannelView, with_value, with_window}
 use Rattle.interval_ledger.specs.Queue.{Queued, with_item}
 use Rattle.lanes.specs.declared.lane_item.LaneItem.{LaneItem}
@@ -25,12 +23,19 @@ pub record HasRoom (r : Recorded) (channels : List ChannelView) (readings : Queu
       length (windows_at r position) ≤ c.windows.room
   pub frequency : length (recorded_readings r) ≤ readings.room
 
+-- there is room for a value, or for a window, of the channel at a position
+abbrev pub HasPlaceForValue : List ChannelView → ℕ → Type 0
+HasPlaceForValue channels position =
+    (c : ChannelView) × (slice_get channels position ≡ Some c) × (length c.values.items < c.values.room)
+
+abbrev pub HasPlaceForWindow : List ChannelView → ℕ → Type 0
+HasPlaceForWindow channels position =
+    (c : ChannelView) × (slice_get channels position ≡ Some c) × (length c.windows.items < c.windows.room)
+
 -- there is room for the item of a lane, in the queue that the item belongs to
 abbrev pub HasPlace : List ChannelView → Queued Reading → ℕ → LaneItem → Type 0
-HasPlace channels readings lane (item.Value start end value) =
-    (c : ChannelView) × (slice_get channels (lane / 2) ≡ Some c) × (length c.values.items < c.values.room)
-HasPlace channels readings lane (item.Window window) =
-    (c : ChannelView) × (slice_get channels (lane / 2) ≡ Some c) × (length c.windows.items < c.windows.room)
+HasPlace channels readings lane (item.Value start end value) = HasPlaceForValue channels (lane / 2)
+HasPlace channels readings lane (item.Window window) = HasPlaceForWindow channels (lane / 2)
 HasPlace channels readings lane (item.Reading reading) = length readings.items < readings.room
 
 -- a channel of these is another one now

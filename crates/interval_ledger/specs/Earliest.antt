@@ -9,6 +9,10 @@ pub record IsFirstLeast (starts : List ℕ) (until c : ℕ) : Type 0 where
   pub earlier : (k : ℕ) → k < c → slice_index starts c < slice_index starts k
   pub later : (k : ℕ) → c < k → k < length starts → slice_index starts c ≤ slice_index starts k
 
+-- none of them lies below a place
+abbrev pub NoneBelow : List ℕ → ℕ → Type 0
+NoneBelow starts until = (k : ℕ) → k < length starts → until ≤ slice_index starts k
+
 -- the first of so many that is the least below a place, or that there is none and the least is the place
 abbrev pub IsLeastSoFar : List ℕ → ℕ → ℕ → ℕ → Option ℕ → Type 0
 IsLeastSoFar starts until n least None =

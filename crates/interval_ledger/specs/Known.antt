@@ -1,5 +1,5 @@
 -- What contracts see of what is known: the items that are released or wait, and what finds the next of them.
-use Rattle.std.specs.Prelude.{◌≡◌, ℕ, ◌+◌, ◌<◌, ◌≤◌, max, [], ◌∷◌, ◌++◌, take, drop, Some, slice_get}
+use Rattle.std.specs.Prelude.{◌≡◌, ℕ, ◌+◌, ◌<◌, ◌≤◌, max, [], ◌∷◌, ◌++◌, length, take, drop, Some, slice_get}
 use Rattle.std.specs.List.{AllByRecursion, list_any}
 use Rattle.aggregate.specs.Aggregation.{Basic}
 use Rattle.aggregate.specs.BasicOrder.{AreBasics}
@@ -105,6 +105,11 @@ Ends old new = (m : Merged) (near mark : ℕ) → IsRecording old.recording →
     mark < sample_count old.recording → IsKnown old m near mark →
     IsSettled old.recording old.limits m (sample_count old.recording) →
     new.outbox.released ≡ cut (sample_count old.recording) (sequential old.recording old.limits)
+
+-- so many steps more as items more are released
+abbrev pub TicksReleased : ℕ → ℕ → KnownView → KnownView → Type 0
+TicksReleased before after old new =
+    after + length old.outbox.released ≡ before + length new.outbox.released
 
 -- the recording and the limits stay
 pub record KeepsName (old new : KnownView) : Type 0 where

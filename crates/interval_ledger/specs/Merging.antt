@@ -1,12 +1,13 @@
 -- What contracts see of merging: what is posted, how much of it is merged, and what is known by that. All of
 -- it is profile.
-use Rattle.std.specs.Prelude.{◌≡◌, ◌⊎◌, ℕ, ◌+◌, ◌-◌, ◌^◌, ◌<◌, ◌≤◌, List, [], ◌∷◌, length, map, take, sum_by, Option, None, Some, slice_get, slice_index, slice_set, option_and_then}
+use Rattle.std.specs.Prelude.{◌≡◌, ◌⊎◌, ℕ, ◌+◌, ◌-◌, ◌^◌, ◌<◌, List, [], ◌∷◌, length, map, take, sum_by, Option, None, Some, slice_get, slice_set, option_and_then}
 use Rattle.std.specs.Option.{option_map_or}
 use Rattle.aggregate.specs.Aggregation.{Basic}
 use Rattle.event_detect.specs.declared.window.Window.{Window}
 use Rattle.interval_ledger.specs.declared.merging.Merging.{Merging}
 use Rattle.interval_ledger.specs.declared.next_due.Due.{Due}
 use Rattle.interval_ledger.specs.Channel.{ChannelView, first_starts, with_merged}
+use Rattle.interval_ledger.specs.Earliest.{NoneBelow}
 use Rattle.interval_ledger.specs.Known.{IsKnown}
 use Rattle.interval_ledger.specs.Left.{IsLeft}
 use Rattle.interval_ledger.specs.Merged.{Merged, all_basics}
@@ -64,6 +65,11 @@ pub record KeepsPosted (old new : Merging) : Type 0 where
   pub windows_same : map (λ c. c.windows) new.channels.items ≡ map (λ c. c.windows) old.channels.items
   pub readings_same : new.readings ≡ old.readings
 
+-- so does the mark
+pub record KeepsMark (old new : Merging) : Type 0 where
+  pub posted : KeepsPosted old new
+  pub mark_same : new.mark ≡ old.mark
+
 -- so do the basic intervals and readings that are merged, and the mark
 pub record MergesWindows (old new : Merging) : Type 0 where
   pub posted : KeepsPosted old new
@@ -83,8 +89,7 @@ pub record IsDue (s : Merging) (w : ℕ) (due : Option Due) : Type 0 where
 
 -- no window is left that begins before a place
 abbrev pub NoneBefore : Merging → ℕ → Type 0
-NoneBefore s until = (k : ℕ) → k < length (first_starts s.channels.items) →
-    until ≤ slice_index (first_starts s.channels.items) k
+NoneBefore s until = NoneBelow (first_starts s.channels.items) until
 
 -- the basic interval or reading is due next, up to some place
 pub record IsNext (s : Merging) (due : Due) : Type 0 where

@@ -1,5 +1,5 @@
 -- What contracts see of what is posted: of each lane its first items. All of it is profile.
-use Rattle.std.specs.Prelude.{◌≡◌, ℕ, ◌+◌, ◌*◌, ◌≤◌, List, length, map, take, Option, None, Some, slice_get}
+use Rattle.std.specs.Prelude.{◌≡◌, ℕ, ◌+◌, ◌*◌, ◌≤◌, List, length, map, take, Option, Some, slice_get}
 use Rattle.std.specs.Option.{option_map_or}
 use Rattle.freq10s.specs.declared.reading.Reading.{Reading}
 use Rattle.interval_ledger.specs.declared.channel.SpanValue.{SpanValue}
@@ -12,6 +12,7 @@ use Rattle.lanes.specs.declared.lane_item.LaneItem.TheVariants as item
 use Rattle.lanes.specs.Lane.{reach, recorded_readings, sampler_items, windows_at}
 use Rattle.pq_base.specs.Recorded.{Recorded}
 use Rattle.pq_sequence.specs.MeasuredRecording.{channel_count}
+use Rattle.pq_words.specs.Steps.{numbers_below}
 
 -- a posted value as an item of its lane
 abbrev pub value_item : SpanValue → LaneItem
@@ -50,8 +51,15 @@ merged_of channels position = option_map_or (λ c. c.merged) (slice_get channels
 abbrev pub root_at : List ChannelView → ℕ → ℕ → ℕ
 root_at channels k position = option_map_or (λ v. v.value) (value_at channels k position) 0
 
+-- what each channel has, by position
+abbrev pub all_roots : List ChannelView → ℕ → List ℕ
+all_roots channels k = map (root_at channels k) (numbers_below (length channels))
+
+-- where a basic interval or a reading ends
+abbrev pub end_of_due : Due → ℕ
+end_of_due (due.Basic first) = first.end
+end_of_due (due.Reading reading) = reading.end
+
 -- where what is next due ends, or w where nothing is
 abbrev pub due_end : ℕ → Option Due → ℕ
-due_end w None = w
-due_end w (Some (due.Basic first)) = first.end
-due_end w (Some (due.Reading reading)) = reading.end
+due_end w found = option_map_or end_of_due found w

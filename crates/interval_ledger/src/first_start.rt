@@ -1,7 +1,7 @@
 // Which channel's window is the next to be merged.
-ghost use Rattle.std.specs.Prelude.{◌≡◌, ℕ, ◌<◌, ◌≤◌, length, slice_index, IfSome, IfNone};
+ghost use Rattle.std.specs.Prelude.{IfSome, IfNone};
 ghost use Rattle.interval_ledger.specs.Channel.{first_starts};
-ghost use Rattle.interval_ledger.specs.Earliest.{IsFirstLeast};
+ghost use Rattle.interval_ledger.specs.Earliest.{IsFirstLeast, NoneBelow};
 
 use crate::channel::Channel;
 
@@ -9,8 +9,7 @@ use crate::channel::Channel;
 /// of which none is left is at the greatest number.
 pub(crate) fn earliest(channels: &[Channel], until: u64) -> Option<usize>
     ensures value { IfSome result (λ c. IsFirstLeast (first_starts channels.now) until c) }
-    ensures none { IfNone result ((k : ℕ) → k < length (first_starts channels.now) →
-        until ≤ slice_index (first_starts channels.now) k) }
+    ensures none { IfNone result (NoneBelow (first_starts channels.now) until) }
 {
     let mut found: Option<usize> = None;
     let mut least = until;

@@ -1,8 +1,8 @@
 // What is known of the result.
-ghost use Rattle.std.specs.Prelude.{◌≡◌, ◌+◌, ◌<◌, ◌≤◌, length, slice_get, IfOk, OnOk, OnErr};
+ghost use Rattle.std.specs.Prelude.{◌≡◌, ◌<◌, ◌≤◌, length, slice_get, IfOk, OnOk, OnErr};
 ghost use Rattle.aggregate.specs.Aggregator.{MayFollow};
 ghost use Rattle.aggregate.specs.BasicOrder.{basic_of};
-ghost use Rattle.interval_ledger.specs.Known.{AddsBasic, AddsReading, AddsWindow, Ends, IsOpened, KeepsKnown, KeepsName, MovesMark};
+ghost use Rattle.interval_ledger.specs.Known.{AddsBasic, AddsReading, AddsWindow, Ends, IsOpened, KeepsKnown, KeepsName, MovesMark, TicksReleased};
 ghost use Rattle.event_detect.specs.Threshold.{IsInOrder};
 ghost use Rattle.interval_ledger.specs.Watch.{TellsTouch};
 ghost use Rattle.polyphase.specs.Poly.{channel_window};
@@ -148,8 +148,7 @@ impl Known {
     pub(crate) fn release<L: Ledger>(&mut self, w: u64, steps: &mut Steps<L>)
         ensures value { MovesMark w self.old self.new }
         ensures name { KeepsName self.old self.new }
-        ensures cost { steps.new + length self.old.outbox.released
-            ≡ steps.old + length self.new.outbox.released }
+        ensures cost { TicksReleased steps.old steps.new self.old self.new }
     {
         self.outbox.release(w, steps);
     }
@@ -163,8 +162,7 @@ impl Known {
         requires { n ≡ sample_count self.old.recording }
         ensures value { OnOk result (Ends self.old self.new) }
         ensures name { KeepsName self.old self.new }
-        ensures cost { OnOk result (steps.new + length self.old.outbox.released
-            ≡ steps.old + length self.new.outbox.released) }
+        ensures cost { OnOk result (TicksReleased steps.old steps.new self.old self.new) }
         ensures err { OnErr result (KeepsKnown self.old self.new) }
         ensures unticked { OnErr result (steps.new ≡ steps.old) }
     {

@@ -1,12 +1,10 @@
 // What is measured, as items.
-ghost use Rattle.std.specs.Prelude.{◌≡◌, ◌+◌, ◌*◌, ◌<◌, ◌≤◌, Bool, [], ◌∷◌, length, option_to_list, slice_index, IfOk};
-ghost use Rattle.aggregate.specs.BasicOrder.{basic_of};
+ghost use Rattle.std.specs.Prelude.{◌≡◌, ◌+◌, ◌*◌, ◌<◌, ◌≤◌, [], ◌∷◌, length, option_to_list, IfOk};
 ghost use Rattle.aggregate.specs.Sum.{part_of};
-ghost use Rattle.interval_ledger.specs.Added.{answered_items, completed_items};
-ghost use Rattle.interval_ledger.specs.Label.{Adds, group_item, item_of_group};
+ghost use Rattle.interval_ledger.specs.Added.{answered_items};
+ghost use Rattle.interval_ledger.specs.Label.{Adds, AddsCompleted, AddsGroup, AddsGroups, AddsPart, frequency_item, group_item, item_of_group};
 ghost use Rattle.pq_sequence.specs.BasicInterval.{cycles_of};
-ghost use Rattle.pq_sequence.specs.SequentialResult.{basic_item, channel_items, event_item, event_items, for_each_channel, item_of_kind, number_of};
-ghost use Rattle.pq_items.specs.declared.item.Item.TheVariants.{Frequency};
+ghost use Rattle.pq_sequence.specs.SequentialResult.{basic_item, event_items, item_of_kind, number_of};
 
 use crate::length::Length;
 use crate::outbox::Outbox;
@@ -58,8 +56,7 @@ impl Labels {
     // Adds a frequency reading.
     pub(crate) fn push_reading(&self, outbox: &mut Outbox, reading: Reading, flagged: bool)
         requires { 1 ≤ outbox.old.room }
-        ensures { Adds 1 outbox.old outbox.new (Frequency reading.tick reading.start reading.end
-            reading.cycles reading.microhertz flagged ∷ []) }
+        ensures { Adds 1 outbox.old outbox.new (frequency_item reading flagged ∷ []) }
     {
         outbox.push(Item::Frequency {
             tick: reading.tick,
@@ -103,8 +100,8 @@ impl Labels {
     )
         requires values { length self.now.recording.value.numbers ≤ length values.now }
         requires room { 4 * length self.now.recording.value.numbers ≤ outbox.old.room }
-        ensures { (front : Bool) → Adds (4 * length self.now.recording.value.numbers) outbox.old outbox.new
-            (completed_items self.now.recording.value (basic_of front span values.now flagged) out.now) }
+        ensures { AddsCompleted self.now.recording.value span values.now flagged out.now
+            outbox.old outbox.new }
     {
         self.push_basic(outbox, span, values, flagged);
         self.push_group(outbox, Length::Short, &out.short);
@@ -116,9 +113,8 @@ impl Labels {
     fn push_basic(&self, outbox: &mut Outbox, span: Span, values: &[u64], flagged: bool)
         requires values { length self.now.recording.value.numbers ≤ length values.now }
         requires room { length self.now.recording.value.numbers ≤ outbox.old.room }
-        ensures { Adds (length self.now.recording.value.numbers) outbox.old outbox.new
-            (channel_items self.now.recording.value
-            (basic_item self.now.recording.value (part_of span values.now flagged))) }
+        ensures { AddsPart self.now.recording.value (part_of span values.now flagged)
+            outbox.old outbox.new }
     {
         for position in 0..self.numbers.len() {
             outbox.push(self.basic_item(span, values, flagged, position));
@@ -128,9 +124,8 @@ impl Labels {
     // Adds an aggregated interval of a length, if there is one.
     fn push_group(&self, outbox: &mut Outbox, long: Length, group: &Option<Group>)
         requires { length self.now.recording.value.numbers ≤ outbox.old.room }
-        ensures { Adds (length self.now.recording.value.numbers) outbox.old outbox.new
-            (for_each_channel self.now.recording.value (group_item long self.now.recording.value)
-            (option_to_list group.now)) }
+        ensures { AddsGroups long self.now.recording.value (option_to_list group.now)
+            outbox.old outbox.new }
     {
         if let Some(group) = group {
             self.push_each(outbox, long, group);
@@ -140,9 +135,7 @@ impl Labels {
     // Adds an aggregated interval of a length, one item a channel.
     fn push_each(&self, outbox: &mut Outbox, long: Length, group: &Group)
         requires { length self.now.recording.value.numbers ≤ outbox.old.room }
-        ensures { Adds (length self.now.recording.value.numbers) outbox.old outbox.new
-            (channel_items self.now.recording.value
-            (group_item long self.now.recording.value group.now)) }
+        ensures { AddsGroup long self.now.recording.value group.now outbox.old outbox.new }
     {
         for position in 0..self.numbers.len() {
             outbox.push(self.group_item(long, group, position));

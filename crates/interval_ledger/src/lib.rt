@@ -4,6 +4,7 @@
 pub use outbox::Outbox;
 pub use steps::Steps;
 
+mod advancing;
 mod channel;
 mod first_start;
 mod known;

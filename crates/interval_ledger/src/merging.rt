@@ -1,19 +1,22 @@
 // Merging: the next window, basic interval or reading, one after another.
-ghost use Rattle.std.specs.Prelude.{◌≡◌, ◌<◌, length, IsSome, OnOk, OnErr};
+ghost use Rattle.std.specs.Prelude.{◌≡◌, ◌+◌, ◌<◌, ◌≤◌, length, Some, IsSome, OnOk};
 ghost use Rattle.interval_ledger.specs.Channel.{first_starts};
 ghost use Rattle.interval_ledger.specs.Earliest.{IsFirstLeast};
-ghost use Rattle.interval_ledger.specs.Merging.{HasMerged, HasPosted, HoldsCut, IsMerging, KeepsPosted, MayMergeUntil, MergesWindows, NoneBefore, TakesWindow, count_left, first_left};
+ghost use Rattle.interval_ledger.specs.Merging.{HasMerged, HasPosted, IsDue, IsMerging, IsNext, IsWithinReach, KeepsMark, MayMergeUntil, MergesWindows, NoneBefore, TakesWindow, count_left, due_left, first_left};
 
-use crate::channel::Channel;
+use crate::channel::{Channel, SpanValue};
 use crate::first_start::earliest;
 use crate::known::Known;
+use crate::next_due::{Due, next_due};
 use crate::queue::Queue;
+use crate::roots::roots;
 use crate::segments::Segments;
 use crate::steps::Steps;
 use event_detect::Window;
 use freq10s::Reading;
 use std::alloc::AllocError;
 use std::sync::ledger::Ledger;
+use ten_twelve::Span;
 
 /// What is posted, how much of it is merged, and what is known by that.
 #[derive(Drop)]
@@ -29,6 +32,106 @@ pub(crate) struct Merging {
 }
 
 impl Merging {
+    // Merges all that ends by a place within the reaches, and the windows that begin before it. A step for
+    // each window, basic interval and reading.
+    pub(crate) fn merge_until<L: Ledger>(
+        &mut self,
+        w: u64,
+        steps: &mut Steps<L>,
+    ) -> Result<(), AllocError>
+        requires posted { HasPosted self.old }
+        requires at { IsMerging self.old }
+        requires within { IsWithinReach self.old w }
+        ensures at { IsMerging self.new }
+        ensures same { KeepsMark self.old self.new }
+        ensures merged { OnOk result (HasMerged self.new w) }
+    {
+        while let Some(due) = self.due(w) {
+            self.merge_due(due, steps)?;
+        }
+        self.merge_windows(w, steps)
+    }
+
+    // What is due next of basic intervals and readings, up to a place.
+    fn due(&self, w: u64) -> Option<Due>
+        requires posted { HasPosted self.now }
+        requires within { IsWithinReach self.now w }
+        ensures { IsDue self.now w result }
+    {
+        next_due(
+            &self.channels,
+            self.basics_merged,
+            &self.readings,
+            self.readings_merged,
+            w,
+        )
+    }
+
+    // Merges what is due next, and the windows that begin before its end first: its flag is known then.
+    fn merge_due<L: Ledger>(&mut self, due: Due, steps: &mut Steps<L>) -> Result<(), AllocError>
+        requires posted { HasPosted self.old }
+        requires at { IsMerging self.old }
+        requires next { IsNext self.old due }
+        ensures at { IsMerging self.new }
+        ensures same { KeepsMark self.old self.new }
+        ensures fewer { OnOk result (due_left self.new < due_left self.old) }
+    {
+        self.merge_windows(due.end(), steps)?;
+        match due {
+            Due::Basic(first) => self.merge_basic(first, steps),
+            Due::Reading(reading) => self.merge_reading(reading, steps),
+        }
+    }
+
+    // Merges the basic interval that is due next.
+    fn merge_basic<L: Ledger>(
+        &mut self,
+        first: SpanValue,
+        steps: &mut Steps<L>,
+    ) -> Result<(), AllocError>
+        requires posted { HasPosted self.old }
+        requires at { IsMerging self.old }
+        requires next { IsNext self.old (Due.Basic first) }
+        requires none { NoneBefore self.old first.end }
+        ensures at { IsMerging self.new }
+        ensures same { KeepsMark self.old self.new }
+        ensures fewer { OnOk result (due_left self.new < due_left self.old) }
+    {
+        let span = Span {
+            start: first.start,
+            end: first.end,
+        };
+        let front = self.segments.begins(span.start);
+        let flagged = self.known.touches(span.start);
+        let values = roots(&self.channels, self.basics_merged);
+        self.known
+            .add_basic(span, front, &values[..self.channels.len()], flagged)?;
+        self.segments.pass(span.start);
+        self.basics_merged = next_index(self.basics_merged, self.channels[0].values());
+        steps.tick();
+        Ok(())
+    }
+
+    // Merges the reading that is due next.
+    fn merge_reading<L: Ledger>(
+        &mut self,
+        reading: Reading,
+        steps: &mut Steps<L>,
+    ) -> Result<(), AllocError>
+        requires posted { HasPosted self.old }
+        requires at { IsMerging self.old }
+        requires next { IsNext self.old (Due.Reading reading) }
+        requires none { NoneBefore self.old reading.end }
+        ensures at { IsMerging self.new }
+        ensures same { KeepsMark self.old self.new }
+        ensures fewer { OnOk result (due_left self.new < due_left self.old) }
+    {
+        self.known.add_reading(reading)?;
+        self.readings_merged = next_index(self.readings_merged, self.readings.count());
+        steps.tick();
+        Ok(())
+    }
+
     // Merges the windows that begin before a place.
     fn merge_windows<L: Ledger>(
         &mut self,
@@ -72,22 +175,6 @@ impl Merging {
         steps.tick();
         Ok(())
     }
-
-    // Moves the mark to the end.
-    fn finish<L: Ledger>(&mut self, n: u64, steps: &mut Steps<L>) -> Result<(), AllocError>
-        requires posted { HasPosted self.old }
-        requires at { IsMerging self.old }
-        requires merged { HasMerged self.old n }
-        requires end { n ≡ self.old.samples }
-        ensures cut { HoldsCut self.new }
-        ensures same { KeepsPosted self.old self.new }
-        ensures value { OnOk result (self.new.mark ≡ n) }
-        ensures err { OnErr result (self.new.mark ≡ self.old.mark) }
-    {
-        self.known.finish(n, steps)?;
-        self.mark = n;
-        Ok(())
-    }
 }
 
 // The first window that is left of the channel at a position, if there is one.
@@ -104,4 +191,12 @@ fn take_window(channels: &mut Vec<Channel>, position: usize)
     ensures { TakesWindow channels.old.items channels.new.items position }
 {
     channels[position].take_window();
+}
+
+// The index after one of so many.
+fn next_index(index: usize, count: usize) -> usize
+    requires { index < count }
+    ensures { result ≡ index + 1 }
+{
+    index + 1
 }

@@ -1,6 +1,6 @@
 // What is merged next of basic intervals and frequency readings.
 ghost use Rattle.std.specs.Prelude.{◌≡◌, ◌<◌, ◌≤◌, length, IfSome, IfNone};
-ghost use Rattle.interval_ledger.specs.Posted.{due_end};
+ghost use Rattle.interval_ledger.specs.Posted.{end_of_due};
 ghost use Rattle.interval_ledger.specs.NextDue.{HasAll, IsNextDue, LacksOne};
 
 use crate::channel::{Channel, SpanValue};
@@ -12,6 +12,18 @@ use freq10s::Reading;
 pub(crate) enum Due {
     Basic(SpanValue),
     Reading(Reading),
+}
+
+impl Due {
+    // Where it ends.
+    pub(crate) fn end(self) -> u64
+        ensures { result ≡ end_of_due self }
+    {
+        match self {
+            Due::Basic(first) => first.end,
+            Due::Reading(reading) => reading.end,
+        }
+    }
 }
 
 /// Of the basic interval at an index and the reading at one, each where it is posted and ends by a place, the
@@ -37,17 +49,6 @@ pub(crate) fn next_due(
         (Some(basic), None) => basic_by(basic, w),
         (None, Some(reading)) => reading_by(reading, w),
         (None, None) => None,
-    }
-}
-
-/// Where it ends, or a place where nothing is due.
-pub(crate) fn due_end(due: Option<Due>, w: u64) -> u64
-    ensures { result ≡ due_end w due }
-{
-    match due {
-        Some(Due::Basic(first)) => first.end,
-        Some(Due::Reading(reading)) => reading.end,
-        None => w,
     }
 }
 

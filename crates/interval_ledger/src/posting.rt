@@ -1,7 +1,7 @@
 // Posting: which queue an item goes to.
-ghost use Rattle.std.specs.Prelude.{◌≡◌, ◌+◌, ◌*◌, ◌<◌, ◌≤◌, Some, length, slice_get, slice_index};
-ghost use Rattle.interval_ledger.specs.Channel.{ChannelView, with_value, with_window};
-ghost use Rattle.interval_ledger.specs.Count.{HasPlace, PutsItem, SetsChannel, counts_of};
+ghost use Rattle.std.specs.Prelude.{◌≡◌, ◌+◌, ◌*◌, ◌<◌, ◌≤◌, length, slice_index};
+ghost use Rattle.interval_ledger.specs.Channel.{with_value, with_window};
+ghost use Rattle.interval_ledger.specs.Count.{HasPlace, HasPlaceForValue, HasPlaceForWindow, PutsItem, SetsChannel, counts_of};
 
 use crate::channel::{Channel, SpanValue};
 use crate::queue::Queue;
@@ -56,16 +56,14 @@ pub(crate) fn count(channels: &[Channel], readings: &Queue<Reading>, lane: u32) 
 }
 
 fn post_value(channels: &mut [Channel], position: usize, value: SpanValue)
-    requires { (c : ChannelView) × (slice_get channels.old position ≡ Some c)
-        × (length c.values.items < c.values.room) }
+    requires { HasPlaceForValue channels.old position }
     ensures { SetsChannel channels.old channels.new position (λ c. with_value c value) }
 {
     channels[position].push_value(value);
 }
 
 fn post_window(channels: &mut [Channel], position: usize, window: Window)
-    requires { (c : ChannelView) × (slice_get channels.old position ≡ Some c)
-        × (length c.windows.items < c.windows.room) }
+    requires { HasPlaceForWindow channels.old position }
     ensures { SetsChannel channels.old channels.new position (λ c. with_window c window) }
 {
     channels[position].push_window(window);

@@ -1,8 +1,7 @@
 // The values of a basic interval.
-ghost use Rattle.std.specs.Prelude.{◌≡◌, ◌≤◌, length, map, slice_get, take};
+ghost use Rattle.std.specs.Prelude.{◌≡◌, ◌≤◌, length, slice_get, take};
 ghost use Rattle.std.specs.Option.{option_map_or};
-ghost use Rattle.interval_ledger.specs.Posted.{root_at};
-ghost use Rattle.pq_words.specs.Steps.{numbers_below};
+ghost use Rattle.interval_ledger.specs.Posted.{all_roots};
 
 use crate::channel::Channel;
 
@@ -12,8 +11,7 @@ const SLOTS: usize = 16;
 /// What each channel has posted at an index, by position, and 0 past the channels.
 pub(crate) fn roots(channels: &[Channel], k: usize) -> [u64; SLOTS]
     requires { length channels.now ≤ 16 }
-    ensures { take (length channels.now) result
-        ≡ map (root_at channels.now k) (numbers_below (length channels.now)) }
+    ensures { take (length channels.now) result ≡ all_roots channels.now k }
 {
     let mut roots = [0; SLOTS];
     for (position, channel) in channels.iter().enumerate() {

@@ -1,5 +1,5 @@
 use Rattle.std.proofs.Common.{◌∙◌, refl, inl}
-use Rattle.interval_ledger.proofs.StateLaws.{kept_by, mark_ended, named, posted_kept, room_merging}
+use Rattle.interval_ledger.proofs.StateLaws.{kept_by, mark_ended, posted_kept, room_merging}
 use Rattle.interval_ledger.proofs.merging.Merging.finish.Goals as goal
 
 -- the place is the end

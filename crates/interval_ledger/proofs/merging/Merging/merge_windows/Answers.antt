@@ -1,4 +1,3 @@
-use Rattle.std.proofs.Common.{ap, subst}
 use Rattle.interval_ledger.proofs.StateLaws.{may_stays, merges_none, merges_twice, posted_kept}
 use Rattle.interval_ledger.proofs.merging.Merging.merge_windows.Goals as goal
 
