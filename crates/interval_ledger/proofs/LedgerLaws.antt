@@ -145,6 +145,7 @@ ledger_of s holds room ordered within =
       room = room;
       ordered = ordered;
       posted = record {
+        given = ∣ holds.posted.given ∣₁;
         sized = sized_of s.known.recording s.channels.items s.readings.items posted;
         most = most_of s.known.recording s.channels.items s.readings.items posted;
         within = within;
@@ -508,20 +509,9 @@ module _ (s t : Merging) (ledger : IsLedger s) (keeps : KeepsPosted s t) where
   seen r limits counts mark = record { recording = r; limits = limits; counts = counts; mark = mark }
 
   -- all that is seen stays, but for the mark
-  seen_at : (mark : ℕ) → t.mark ≡ mark → settlement_of t ≡ with_mark (settlement_of s) mark
-  seen_at mark is =
+  pub seen_kept : settlement_of t ≡ with_mark (settlement_of s) t.mark
+  seen_kept =
       let counts = counts_of t.channels.items t.readings.items in
       ap (λ r. seen r t.known.limits counts t.mark) keeps.recording_same
       ∙ ap (λ l. seen s.known.recording l counts t.mark) keeps.limits_same
       ∙ ap (λ ns. seen s.known.recording s.known.limits ns t.mark) counts_kept
-      ∙ ap (seen s.known.recording s.known.limits (counts_of s.channels.items s.readings.items)) is
-
-  pub seen_moved : {X E : Type 0} (w : ℕ) (result : Result X E) → OnOk result (t.mark ≡ max s.mark w) →
-      OnOk result (settlement_of t ≡ with_mark (settlement_of s) (max s.mark w))
-  seen_moved w (Ok x) moved = seen_at (max s.mark w) moved
-  seen_moved w (Err e) moved = moved
-
-  pub seen_same : {X E : Type 0} (result : Result X E) → OnErr result (t.mark ≡ s.mark) →
-      OnErr result (settlement_of t ≡ settlement_of s)
-  seen_same (Ok x) stays = stays
-  seen_same (Err e) stays = seen_at s.mark stays

@@ -29,3 +29,5 @@ pub mod StateLaws
 pub mod JoinLaws
 pub mod BasicStateLaws
 pub mod LedgerLaws
+pub mod FreshLaws
+pub mod GivenLaws

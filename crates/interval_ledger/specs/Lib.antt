@@ -15,3 +15,5 @@ pub mod Posted
 pub mod Merging
 pub mod Settlement
 pub mod IsLedger
+pub mod Ledger
+pub mod Opening

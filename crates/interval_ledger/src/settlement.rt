@@ -1,0 +1,114 @@
+// What is posted, and the mark, seen without the queues.
+ghost use Rattle.std.specs.Prelude.{◌≡◌, ◌<◌, Some, length, max, slice_get, IfOk, OnOk, OnErr};
+ghost use Rattle.event_detect.specs.Threshold.{IsInOrder};
+ghost use Rattle.interval_ledger.specs.Settlement.{IsPosted, nothing_posted, posted_count, settled_items, with_mark, with_post};
+ghost use Rattle.lanes.specs.Lane.{IsWithinReaches, lane_count, lane_items};
+
+use crate::merging::Merging;
+use crate::opening::open_merging;
+use crate::posting::{count, lanes, post};
+use crate::steps::Steps;
+use event_detect::Limits;
+use lanes::LaneItem;
+use pq_base::Recording;
+use pq_items::Item;
+use std::alloc::{AllocError, Global};
+use std::marker::Model;
+use std::sync::ledger::Ledger;
+
+/// Merging, of which what is released is the cut at the mark. It is seen as what is posted and the mark.
+#[derive(Drop)]
+pub(crate) struct Settlement {
+    merging: Merging,
+}
+
+impl Model for Settlement {
+    ghost use Rattle.interval_ledger.specs.IsLedger.{IsLedger, settlement_of};
+    ghost use Rattle.interval_ledger.specs.Settlement.{SettlementView};
+
+    ghost Value = { SettlementView };
+
+    ghost view = { λ s. settlement_of s.merging };
+
+    ghost invariant = { λ s. IsLedger s.merging };
+}
+
+impl Settlement {
+    // Nothing is posted, and the mark is at 0.
+    pub(crate) fn open(
+        alloc: Global,
+        recording: &Recording,
+        limits: &Limits,
+    ) -> Result<Settlement, AllocError>
+        requires { IsInOrder limits.now }
+        ensures value { IfOk result (λ s. s ≡ nothing_posted recording.now limits.now) }
+        ensures posted { IfOk result IsPosted }
+    {
+        let merging = open_merging(alloc, recording, limits)?;
+        Ok(Settlement { merging })
+    }
+
+    // Posts the next item of a lane.
+    pub(crate) fn post(&mut self, lane: u32, item: LaneItem)
+        requires { slice_get (lane_items self.old.recording lane) (posted_count self.old lane) ≡ Some item }
+        ensures value { self.new ≡ with_post self.old lane }
+        ensures posted { IsPosted self.new }
+    {
+        post(
+            &mut self.merging.channels,
+            &mut self.merging.readings,
+            lane,
+            item,
+        );
+    }
+
+    // Moves the mark to a place, if that lies after it.
+    pub(crate) fn advance<L: Ledger>(
+        &mut self,
+        w: u64,
+        steps: &mut Steps<L>,
+    ) -> Result<(), AllocError>
+        requires { IsWithinReaches self.old.recording self.old.counts w }
+        ensures same { self.new ≡ with_mark self.old self.new.mark }
+        ensures posted { IsPosted self.new }
+        ensures ok { OnOk result (self.new.mark ≡ max self.old.mark w) }
+        ensures err { OnErr result (self.new.mark ≡ self.old.mark) }
+    {
+        self.merging.advance(w, steps)
+    }
+
+    pub(crate) fn mark(&self) -> u64
+        ensures { result ≡ self.now.mark }
+    {
+        self.merging.mark
+    }
+
+    // How many items are released.
+    pub(crate) fn released(&self) -> usize
+        ensures { result ≡ length (settled_items self.now) }
+    {
+        self.merging.known.released()
+    }
+
+    // The released item at a place from 0, if there is one.
+    pub(crate) fn item(&self, index: usize) -> Option<Item>
+        ensures { result ≡ slice_get (settled_items self.now) index }
+    {
+        self.merging.known.item(index)
+    }
+
+    // How many lanes there are.
+    pub(crate) fn lanes(&self) -> u32
+        ensures { result ≡ lane_count self.now.recording }
+    {
+        lanes(&self.merging.channels)
+    }
+
+    // How many items of a lane are posted.
+    pub(crate) fn count(&self, lane: u32) -> u64
+        requires { lane < lane_count self.now.recording }
+        ensures { result ≡ posted_count self.now lane }
+    {
+        count(&self.merging.channels, &self.merging.readings, lane) as u64
+    }
+}
