@@ -8,13 +8,11 @@ ghost use Rattle.pq_sequence.specs.Lists.{Gives};
 ghost use Rattle.pq_sequence.specs.MeasuredRecording.{channel_count, reference_cycles as cycles_of_recording};
 ghost use Rattle.lanes.specs.Lane.{recorded_runs as runs_of_recording};
 
-use crate::cycles::{recorded_rule, reference_cycles};
 use crate::measurement::LaneKeys;
-use crate::runs::recorded_runs;
 use freq10s::Readings;
 use half_cycle::Windows;
 use pq_base::{OutOfMemory, Recording};
-use pq_sequence::clock_of;
+use pq_sequence::{clock_of, recorded_rule, recorded_runs, reference_cycles};
 use std::alloc::{AllocError, Global};
 use ten_twelve::Span;
 

@@ -16,8 +16,6 @@ pub use step::Step;
 
 mod answer;
 mod core_event;
-mod cycles;
-mod fronts;
 mod lane_keys;
 mod laws;
 mod least_word;
@@ -29,5 +27,4 @@ mod numbers;
 mod phase;
 mod phase_table;
 mod played;
-mod runs;
 mod step;
