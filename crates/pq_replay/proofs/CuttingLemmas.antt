@@ -1,5 +1,5 @@
 -- Texts cut into lines, and lines cut at spaces.
-use Rattle.std.proofs.Common.{◌≡◌, ℕ, ◌≤◌, List, [], ◌∷◌, length, None, refl, ◌∙◌, ap, arith}
+use Rattle.std.proofs.Common.{◌≡◌, ◌≤◌, List, [], ◌∷◌, length, None, refl, ◌∙◌, ap, arith}
 use Rattle.std.specs.Str.Lines.{lines, lines_of_parts, strip_carriage_return}
 use Rattle.pq_time.proofs.FieldLemmas.{some_part}
 use Rattle.pq_words.specs.Text.{Text, parted_at}

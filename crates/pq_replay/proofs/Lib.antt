@@ -1,4 +1,10 @@
+mod AnswerFacts
+mod AnswerLemmas
 mod CuttingLemmas
+mod FollowLaws
+mod LineLaws
 mod PassingLaws
+mod PlayingLaws
+mod RangeLaws
 mod ReadingLaws
 mod StandardFacts

@@ -10,14 +10,16 @@ use Rattle.pq_replay.specs.Schedule.{HasPassed, Passed, loads, phases_after_step
 -- what follows a step
 abbrev pub after_first : List Step → Option (Bool × Phases) → Option Phases
 after_first rest given =
-    option_and_then (λ first. elim first.0 [ true ↦ Some first.1 | false ↦ phases_after_steps first.1 rest ]) given
+    option_and_then (λ first. elim first.0 [ true ↦ Some first.1 | false ↦ phases_after_steps first.1 rest ])
+    given
 
-steps_cons : (p : Phases) (s : Step) (rest : List Step) → phases_after_steps p (s ∷ rest)
+pub steps_cons : (p : Phases) (s : Step) (rest : List Step) → phases_after_steps p (s ∷ rest)
     ≡ after_first rest (step_passed p s)
 unfolding phases_after_steps
 steps_cons p s rest = refl
 
-split : (p : Phases) (s : Step) (all rest : List Step) (given : Option (Bool × Phases)) (whole : Option Phases) →
+split : (p : Phases) (s : Step) (all rest : List Step) (given : Option (Bool × Phases))
+    (whole : Option Phases) →
     all ≡ s ∷ rest → step_passed p s ≡ given → phases_after_steps p all ≡ whole → after_first rest given
     ≡ whole
 split p s all rest given whole splits is before =
@@ -28,12 +30,14 @@ split p s all rest given whole splits is before =
 pub goes_on : (p next : Phases) (s : Step) (all rest : List Step) (whole : Option Phases) → all ≡ s ∷ rest →
     step_passed p s ≡ Some (false, next) → phases_after_steps p all ≡ whole → phases_after_steps next rest
     ≡ whole
-goes_on p next s all rest whole splits is before = split p s all rest (Some (false, next)) whole splits is before
+goes_on p next s all rest whole splits is before =
+    split p s all rest (Some (false, next)) whole splits is before
 
 -- one that is answered Halted or Busy
 pub stops : (p next : Phases) (s : Step) (all rest : List Step) (whole : Option Phases) → all ≡ s ∷ rest →
     step_passed p s ≡ Some (true, next) → phases_after_steps p all ≡ whole → whole ≡ Some next
-stops p next s all rest whole splits is before = sym (split p s all rest (Some (true, next)) whole splits is before)
+stops p next s all rest whole splits is before =
+    sym (split p s all rest (Some (true, next)) whole splits is before)
 
 -- one that isn't allowed
 pub refused : (p : Phases) (s : Step) (all rest : List Step) (whole : Option Phases) → all ≡ s ∷ rest →
@@ -75,16 +79,16 @@ line_refused p new xs ys zs true h first second is = absurd (let bad : ⊥ = cc 
 line_refused p new xs ys zs false h first second is = ap (phases_after_steps p) (sym second)
     ∙ ap (phases_after_steps p) (sym first) ∙ h
 
--- at an index there is a step, and then the others
-pub splits_at : (steps : List Step) (i : ℕ) (d : Step) → i < length steps → drop i steps
-    ≡ get_or steps i d ∷ drop (i + 1) steps
-splits_at steps i d inside =
+-- at an index there is an element, and then the others
+pub splits_at : {X : Type 0} (xs : List X) (i : ℕ) (d : X) → i < length xs → drop i xs
+    ≡ get_or xs i d ∷ drop (i + 1) xs
+splits_at xs i d inside =
     let e : suc i ≡ i + 1 = omega arith in
-    drop-cons steps i d inside ∙ ap (λ n. get_or steps i d ∷ drop n steps) e
+    drop-cons xs i d inside ∙ ap (λ n. get_or xs i d ∷ drop n xs) e
 
 -- and past the last there is none
-pub none_at : (steps : List Step) (i : ℕ) → length steps ≤ i → drop i steps ≡ []
-none_at steps i past = grind (arith, common_steps)
+pub none_at : {X : Type 0} (xs : List X) (i : ℕ) → length xs ≤ i → drop i xs ≡ []
+none_at xs i past = grind (arith, common_steps)
 
 -- one load more
 pub loads_more : (session lane : ℕ) (front old new : List Step) → old ≡ front ++ loads lane session → new

@@ -34,12 +34,13 @@ abbrev pub after_read : ℕ → Phases → ℕ → List Text → Result Line Sch
     Result (List Line) ScheduleFault
 after_read lanes p n texts read = read >>= λ l. after_passed lanes n texts l (line_passed lanes n p l)
 
-lines_cons : (lanes : ℕ) (p : Phases) (n : ℕ) (text : Text) (texts : List Text) →
+pub lines_cons : (lanes : ℕ) (p : Phases) (n : ℕ) (text : Text) (texts : List Text) →
     lines_from lanes p n (text ∷ texts) ≡ after_read lanes p n texts (line_read n (line_of text))
 unfolding lines_from
 lines_cons lanes p n text texts = refl
 
-split : (lanes : ℕ) (p : Phases) (n : ℕ) (rest text after : Text) (front : List Line) (read : Result Line ScheduleFault)
+split : (lanes : ℕ) (p : Phases) (n : ℕ) (rest text after : Text) (front : List Line)
+    (read : Result Line ScheduleFault)
     → lines rest ≡ text ∷ lines after → line_read n (line_of text) ≡ read →
     after_lines front (lines_from lanes p n (lines rest))
     ≡ after_lines front (after_read lanes p n (lines after) read)
@@ -48,12 +49,14 @@ split lanes p n rest text after front read parts is =
     ∙ ap (after_read lanes p n (lines after)) is)
 
 -- a line outside the grammar
-pub line_fault : (lanes : ℕ) (p : Phases) (n : ℕ) (rest text after : Text) (front : List Line) (e : ScheduleFault) →
+pub line_fault : (lanes : ℕ) (p : Phases) (n : ℕ) (rest text after : Text) (front : List Line)
+    (e : ScheduleFault) →
     lines rest ≡ text ∷ lines after → line_read n (line_of text) ≡ Err e →
     after_lines front (lines_from lanes p n (lines rest)) ≡ Err e
 line_fault lanes p n rest text after front e parts is = split lanes p n rest text after front (Err e) parts is
 
-passed : (lanes : ℕ) (p : Phases) (n : ℕ) (rest text after : Text) (front : List Line) (l : Line) (given : Option Phases)
+passed : (lanes : ℕ) (p : Phases) (n : ℕ) (rest text after : Text) (front : List Line) (l : Line)
+    (given : Option Phases)
     → lines rest ≡ text ∷ lines after → line_read n (line_of text) ≡ Ok l →
     phases_after_steps p (steps_of lanes l) ≡ given →
     after_lines front (lines_from lanes p n (lines rest))

@@ -1,4 +1,5 @@
 //! One line of a schedule.
+use crate::command::Command;
 
 /// A command and its numbers.
 #[derive(Clone, Copy, Debug, PartialEq, Eq)]
@@ -23,4 +24,44 @@ pub enum Line {
     Split { session: u32 },
     /// A session halts the work.
     Halt { session: u32 },
+}
+
+impl Line {
+    ghost use Rattle.std.specs.Prelude.{◌≡◌};
+    ghost use Rattle.pq_replay.specs.AnswerLines.{command_of, number_of};
+
+    pub(crate) fn command(self) -> Command
+        ensures { result ≡ command_of self }
+    {
+        match self {
+            Line::Take { .. } => Command::Take,
+            Line::Post { .. } => Command::Post,
+            Line::Raise { .. } => Command::Raise,
+            Line::Step { .. } => Command::Step,
+            Line::Look { .. } => Command::Look,
+            Line::Grab { .. } => Command::Grab,
+            Line::Read { .. } => Command::Read,
+            Line::Query { .. } => Command::Query,
+            Line::Split { .. } => Command::Split,
+            Line::Halt { .. } => Command::Halt,
+        }
+    }
+
+    // Its lane or session.
+    pub(crate) fn number(self) -> u32
+        ensures { result ≡ number_of self }
+    {
+        match self {
+            Line::Take { lane } => lane,
+            Line::Post { lane, .. } => lane,
+            Line::Raise { lane } => lane,
+            Line::Step { lane, .. } => lane,
+            Line::Look { session } => session,
+            Line::Grab { session } => session,
+            Line::Read { session } => session,
+            Line::Query { session } => session,
+            Line::Split { session } => session,
+            Line::Halt { session } => session,
+        }
+    }
 }

@@ -1,7 +1,7 @@
 // Phases along the steps of a line.
 ghost use Rattle.std.specs.Prelude.{◌≡◌, IfOk};
-ghost use Rattle.chain_core.specs.Play.{event_of, taken_lane};
-ghost use Rattle.pq_replay.specs.Schedule.{HasPassed, Passed, event_passed, is_refused, phases_after_steps, step_passed, take_passed};
+ghost use Rattle.pq_replay.specs.Schedule.{HasPassed, Passed, event_passed, is_refused};
+ghost use Rattle.pq_replay.specs.Schedule.{phases_after_steps, step_passed, take_passed};
 
 use chain_core::{CoreEvent, PhaseTable, Step};
 use std::alloc::{AllocError, Global};
@@ -29,11 +29,11 @@ pub(crate) fn pass_steps(
 fn pass_step(phases: &mut PhaseTable, alloc: Global, step: Step) -> Result<Option<bool>, AllocError>
     ensures { IfOk result (λ r. Passed (step_passed phases.old step) r phases.new) }
 {
-    let event = event_of(step);
+    let event = step.event();
     if !phases.has_room(event) {
         return Ok(None);
     }
-    match taken_lane(step) {
+    match step.taken_lane() {
         Some(lane) => pass_take(phases, alloc, lane),
         None => pass_event(phases, alloc, event),
     }
@@ -76,32 +76,5 @@ fn is_refused(phases: &PhaseTable, event: CoreEvent) -> bool
         CoreEvent::LaneStopLoad { .. } | CoreEvent::SessionStopLoad { .. } => phases.is_halted(),
         CoreEvent::LaneTry { .. } | CoreEvent::SessionTry { .. } => phases.turn() != 0,
         _ => false,
-    }
-}
-
-// The lane that a step takes, if it is a take.
-fn taken_lane(step: Step) -> Option<u32>
-    ensures { result ≡ taken_lane step }
-{
-    match step {
-        Step::Take { lane } => Some(lane),
-        _ => None,
-    }
-}
-
-// The event with which a step begins.
-fn event_of(step: Step) -> CoreEvent
-    ensures { result ≡ event_of step }
-{
-    match step {
-        Step::Take { lane } => CoreEvent::LaneStopLoad { lane },
-        Step::Post { lane, most } => CoreEvent::Post { lane, most },
-        Step::Raise { lane } => CoreEvent::Raise { lane },
-        Step::LoadStop { session } => CoreEvent::SessionStopLoad { session },
-        Step::Load { session, lane } => CoreEvent::Load { session, lane },
-        Step::Grab { session } => CoreEvent::SessionTry { session },
-        Step::Read { session } => CoreEvent::Read { session },
-        Step::Split { session } => CoreEvent::Split { session },
-        Step::Halt { session } => CoreEvent::Halt { session },
     }
 }
