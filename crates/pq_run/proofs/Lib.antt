@@ -1,5 +1,7 @@
 pub mod GeneratingLemmas
 pub mod MeasuringLemmas
+pub mod RecordingLemmas
+pub mod ReplayingLemmas
 pub mod SelectionLemmas
 mod StandardFacts
 mod VerdictFacts

@@ -2,7 +2,7 @@
 use Rattle.std.proofs.Common.{◌≡◌, ℕ, List, Option, subst, Result, Ok, Err}
 use Rattle.comtrade_cfg.specs.CfgText.{IsConfiguration, configuration_of}
 use Rattle.comtrade_cfg.specs.Selecting.{IsSelected, selected_of}
-use Rattle.pq_run.specs.Measuring.{IsSelectedConfiguration, SelectedConfiguration, selected_configuration}
+use Rattle.pq_run.specs.RecordingFiles.{IsSelectedConfiguration, SelectedConfiguration, selected_configuration}
 use Rattle.pq_words.proofs.ReadingLemmas.{bind_ok}
 use Rattle.pq_words.specs.Text.{Text}
 use Rattle.status_text.specs.Refusals.{cfg_refusal, or_refused, select_refusal}

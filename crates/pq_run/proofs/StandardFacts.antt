@@ -1,5 +1,5 @@
 -- Worked values, so that a wrong rule in the specs does not check.
-use Rattle.std.proofs.Common.{◌≡◌, ℕ, [], ◌∷◌, refl, pos, true, false}
+use Rattle.std.proofs.Common.{◌≡◌, ℕ, [], ◌∷◌, ◌++◌, refl, pos}
 use Rattle.std.specs.Fmt.{digits}
 use Rattle.std.specs.Prelude.{codes}
 use Rattle.aggregate.specs.Aggregation.{short_groups, ten_groups, two_hour_groups}
@@ -12,8 +12,7 @@ use Rattle.fixed_rms.specs.Root.{isqrt, mean_square, rms, root_in}
 use Rattle.half_cycle.specs.HalfCycleWindow.{window_between, windows, windows_over}
 use Rattle.jiff_core.specs.Calendar.{days_of_months}
 use Rattle.pq_base.specs.Recorded.{Recorded}
-use Rattle.pq_items.specs.declared.item.Item.TheVariants as item
-use Rattle.pq_report.specs.ReportText.{header, item_row, rows_text}
+use Rattle.pq_report.specs.ReportText.{header, item_row}
 use Rattle.pq_run.specs.Measuring.{report_text}
 use Rattle.pq_sequence.specs.BasicInterval.{basic_runs, front_of, fronts}
 use Rattle.polyphase.specs.PolyphaseEvent.{all_polyphase_events, begins, conditions, ends, latest, merged_windows}
@@ -22,7 +21,6 @@ use Rattle.pq_sequence.specs.SequentialResult.{items_under, sequential}
 use Rattle.pq_time.specs.Printed.{date_shown, printed_moment}
 use Rattle.pq_time.specs.Tick.{ticks}
 use Rattle.pq_time.specs.Time.{place_of, time_of}
-use Rattle.pq_time.specs.declared.clock.Clock.{Clock}
 use Rattle.pq_words.proofs.WorkedSignal.{sampled, sine_count}
 use Rattle.pq_words.specs.First.{first_between, first_of}
 use Rattle.pq_words.specs.Sorted.{in_order, put_in_order}
@@ -32,31 +30,6 @@ use Rattle.ten_twelve.specs.Run.{runs}
 use Rattle.zero_cross.specs.Boundary.{boundaries, cycle_boundaries, first_boundary, next_boundary, rule_of}
 
 -- ---- the report
-
--- from a second after noon of 1 March 2024, at 1200 Hz
-abbrev clock : Clock
-clock = record { t0 = pos 1709294401000000000; rate = 1200000000 }
-
--- rows of items by hand: a record is clear or flagged, an event closed or open
-pub rows : rows_text clock
-    (item.Basic 1 24 264 10 229805362 false ∷ item.Basic 12 264 504 12 211869380 true ∷ item.Dip 1 252 336
-    114896273 false ∷ item.Interruption 1 0 1200 0 true ∷ item.Swell 999 12 24 253000001 false ∷ [])
-    ≡ codes
-    "kind,channel,start,end,from,to,tick,value,count,mark\nbasic,1,24,264,2024-03-01T12:00:01.020000000Z,2024-03-01T12:00:01.220000000Z,,229805362,10,clear\nbasic,12,264,504,2024-03-01T12:00:01.220000000Z,2024-03-01T12:00:01.420000000Z,,211869380,12,flagged\ndip,1,252,336,2024-03-01T12:00:01.210000000Z,2024-03-01T12:00:01.280000000Z,,114896273,0,closed\ninterruption,1,0,1200,2024-03-01T12:00:01.000000000Z,2024-03-01T12:00:02.000000000Z,,0,0,open\nswell,999,12,24,2024-03-01T12:00:01.010000000Z,2024-03-01T12:00:01.020000000Z,,253000001,0,closed\n"
-unfolding header item_row time_of printed_moment date_shown days_of_months first_between first_of digits
-rows = refl
-
--- a reading, and a ten-minute record at a rate that divides no second, each with its tick
-pub rows_with_ticks : (item_row (record { t0 = pos 1709294409995000000; rate = 1200000000 })
-    (item.Frequency (pos 1709294410) 6 12006 499 50000000 false)
-    ≡ codes
-    "freq,0,6,12006,2024-03-01T12:00:10.000000000Z,2024-03-01T12:00:20.000000000Z,2024-03-01T12:00:10.000000000Z,50000000,499,clear\n")
-    × (item_row (record { t0 = pos 1709294399000000000; rate = 1199000000 })
-    (item.Ten 1 (pos 1709294400) 1200 720720 2998 229805362 false)
-    ≡ codes
-    "ten,1,1200,720720,2024-03-01T12:00:00.000834028Z,2024-03-01T12:10:00.100917431Z,2024-03-01T12:00:00.000000000Z,229805362,2998,clear\n")
-unfolding item_row time_of printed_moment date_shown days_of_months first_between first_of digits
-rows_with_ticks = (refl, refl)
 
 -- a declared voltage in millivolts, and the usual thresholds and hysteresis
 abbrev usual_settings : ℕ → Settings
@@ -80,8 +53,11 @@ recorded = record {
 
 -- two_intervals, to the byte
 pub two_intervals : report_text recorded (limits_of (usual_settings 230000))
-    ≡ codes
-    "kind,channel,start,end,from,to,tick,value,count,mark\nbasic,1,24,264,2024-03-01T12:00:01.020000000Z,2024-03-01T12:00:01.220000000Z,,229805362,10,clear\nbasic,1,264,504,2024-03-01T12:00:01.220000000Z,2024-03-01T12:00:01.420000000Z,,229805362,10,clear\n"
+    ≡ codes "kind,channel,start,end,from,to,tick,value,count,mark\n"
+    ++ (codes "basic,1,24,264,"
+    ++ (codes "2024-03-01T12:00:01.020000000Z,2024-03-01T12:00:01.220000000Z,,229805362,10,clear\n"
+    ++ (codes "basic,1,264,504,"
+    ++ codes "2024-03-01T12:00:01.220000000Z,2024-03-01T12:00:01.420000000Z,,229805362,10,clear\n")))
 unfolding report_text header item_row time_of printed_moment date_shown days_of_months sequential in_order
     put_in_order items_under readings short_groups ten_groups two_hour_groups all_polyphase_events
     merged_windows conditions begins ends latest events extents

@@ -1,6 +1,6 @@
 -- Worked verdicts: refusals in their order, and jobs.
 use Rattle.std.proofs.Common.{◌≡◌, ℕ, List, [], ◌∷◌, ◌++◌, map, take, replicate, refl, Option, None, Some, Ok, Err}
-use Rattle.command_words.specs.Commands.{Analyse, Check, Intervals, Measurement}
+use Rattle.command_words.specs.Commands.{Analyse, Check, Intervals, Measurement, Replay}
 use Rattle.command_words.specs.declared.command.WordsFault.TheVariants as words_fault
 use Rattle.std.specs.Fmt.{digits}
 use Rattle.std.specs.Prelude.{codes, slice_set}
@@ -21,8 +21,13 @@ use Rattle.pq_base.specs.Decimal.{decimal_of}
 use Rattle.pq_base.specs.Outside.{Files}
 use Rattle.pq_run.specs.Check.{check_course}
 use Rattle.pq_run.specs.Commands.{analyse_task_course, still_task_course}
+use Rattle.pq_replay.specs.AnswerLines.{answer_lines, replay_text}
+use Rattle.pq_replay.specs.LineGrammar.{command_read, line_of_parts}
+use Rattle.pq_replay.specs.Schedule.{event_passed, lines_from, phases_after_steps, schedule_of, step_passed, take_passed}
 use Rattle.pq_report.specs.ReportText.{header}
-use Rattle.pq_run.specs.Measuring.{dat_report, measuring_course, report_text, selected_configuration}
+use Rattle.pq_run.specs.Measuring.{measuring_course, report_text}
+use Rattle.pq_run.specs.RecordingFiles.{selected_configuration}
+use Rattle.pq_run.specs.Replaying.{replay_course, schedule_answers}
 use Rattle.pq_run.specs.SettingsLimits.{settings_limits}
 use Rattle.pq_course.specs.Verdict.{AsksAll, AsksFront, Course, Job, Refused, verdict}
 use Rattle.status_text.specs.declared.status.Status.{Status}
@@ -87,6 +92,11 @@ course = measuring_course measurement
 abbrev files_with : Text → Text → Option Files
 files_with cfg dat = Some ((codes "a.cfg", cfg) ∷ (codes "a.dat", dat) ∷ [])
 
+-- no sample, and a schedule
+abbrev files_and_schedule : Text → Option Files
+files_and_schedule schedule = Some ((codes "a.cfg", worked_cfg (codes "0")) ∷ (codes "a.dat", [])
+    ∷ (codes "a.txt", schedule) ∷ [])
+
 -- a record of this number, with count 0, and three that follow one another
 abbrev dat_record : ℕ → Text
 dat_record n = n ∷ replicate 9 0
@@ -106,7 +116,7 @@ pub dat_verdicts : map (verdict course)
     ∷ Some (Refused (status.DatFault (fault.Missing 2 1)))
     ∷ Some (Refused (status.DatFault (fault.Number 2 9)))
     ∷ Some (Refused (status.NoFile 1)) ∷ Some (Refused (status.NoFile 2)) ∷ None ∷ []
-unfolding settings_limits dat_report selected_configuration selected_of samples_of digits text_field
+unfolding settings_limits selected_configuration selected_of samples_of digits text_field
     number_field position_field decimal_text decimal_field channel_count frequency_field rate_field
     samples_field leap_field station_fields analogue_fields status_fields configuration_of configuration_ahead
     lines_behind channel_lines decimal_of written_moment date_of clock_time_of days_from_civil day_count
@@ -145,7 +155,7 @@ pub cfg_verdicts : map (λ cfg. verdict course (Some ((codes "a.cfg", cfg) ∷ [
     ∷ Some (Refused (status.NoFile 2))
     ∷ Some (Refused (status.Limit quantity.Value 4))
     ∷ Some (Refused (status.Selection 0)) ∷ []
-unfolding settings_limits dat_report selected_configuration selected_of samples_of digits text_field
+unfolding settings_limits selected_configuration selected_of samples_of digits text_field
     number_field position_field decimal_text decimal_field channel_count frequency_field rate_field
     samples_field leap_field station_fields analogue_fields status_fields configuration_of configuration_ahead
     lines_behind channel_lines decimal_of written_moment date_of clock_time_of days_from_civil day_count
@@ -155,7 +165,7 @@ cfg_verdicts = refl
 -- a cfg of no sample and an empty dat are a job: the header alone
 pub empty_recording : verdict course (files_with (worked_cfg (codes "0")) [])
     ≡ Some (Job (codes "kind,channel,start,end,from,to,tick,value,count,mark\n"))
-unfolding settings_limits dat_report selected_configuration selected_of samples_of digits text_field
+unfolding settings_limits selected_configuration selected_of samples_of digits text_field
     number_field position_field decimal_text decimal_field channel_count frequency_field rate_field
     samples_field leap_field station_fields analogue_fields status_fields configuration_of configuration_ahead
     lines_behind channel_lines decimal_of written_moment date_of clock_time_of days_from_civil day_count
@@ -166,14 +176,34 @@ unfolding settings_limits dat_report selected_configuration selected_of samples_
     steps_from
 empty_recording = refl
 
+-- a dip of 6 percent of the declared voltage
+abbrev out_of_order : Settings
+out_of_order = record (usual_settings 230000) { dip = 60 }
+
+-- a replay: the dat is judged before the schedule is asked for, and then the schedule; an empty one is a job
+pub replays : map (verdict (replay_course measurement (codes "a.txt")))
+    (files_with (worked_cfg (codes "3")) (take 29 three_records) ∷ files_with (worked_cfg (codes "0")) []
+    ∷ files_and_schedule (codes "look 0\npost 0 1\n") ∷ files_and_schedule [] ∷ [])
+    ≡ Some (Refused (status.DatFault (fault.Short 3))) ∷ Some (Refused (status.NoFile 3))
+    ∷ Some (Refused (status.ScheduleFault 2)) ∷ Some (Job []) ∷ []
+unfolding settings_limits schedule_answers selected_configuration selected_of samples_of digits text_field
+    number_field position_field decimal_text decimal_field channel_count frequency_field rate_field
+    samples_field leap_field station_fields analogue_fields status_fields configuration_of configuration_ahead
+    lines_behind channel_lines decimal_of written_moment date_of clock_time_of days_from_civil day_count
+    days_of_years days_of_months schedule_of lines_from phases_after_steps step_passed take_passed
+    event_passed line_of_parts command_read replay_text answer_lines
+replays = refl
+
 -- no file is needed for words that are not understood, for commands of the other call, and for thresholds out
 -- of order
 pub refused_without_files : map (λ c. verdict c None)
     (still_task_course (Err words_fault.NotUnderstood) ∷ still_task_course (Ok (Analyse measurement))
     ∷ analyse_task_course (Err words_fault.NotUnderstood) ∷ analyse_task_course (Ok (Intervals measurement))
     ∷ analyse_task_course (Ok (Check (codes "a.cfg")))
-    ∷ measuring_course (record measurement { settings = record (usual_settings 230000) { dip = 60 } }) ∷ [])
-    ≡ replicate 5 (Some (Refused status.Usage)) ++ Some (Refused status.BadLimits) ∷ []
+    ∷ analyse_task_course (Ok (Replay measurement (codes "a.txt")))
+    ∷ still_task_course (Ok (Replay (record measurement { settings = out_of_order }) (codes "a.txt")))
+    ∷ measuring_course (record measurement { settings = out_of_order }) ∷ [])
+    ≡ replicate 6 (Some (Refused status.Usage)) ++ replicate 2 (Some (Refused status.BadLimits))
 unfolding settings_limits
 refused_without_files = refl
 
@@ -183,7 +213,7 @@ pub selections : map (λ m. verdict (measuring_course m) (files_with (worked_cfg
     ∷ record measurement { channels = Some (1 ∷ []); reference = Some 2 } ∷ [])
     ≡ Some (Refused (status.Selection 9)) ∷ Some (Refused (status.Selection 1))
     ∷ Some (Refused (status.Selection 2)) ∷ []
-unfolding settings_limits dat_report selected_configuration selected_of samples_of digits text_field
+unfolding settings_limits selected_configuration selected_of samples_of digits text_field
     number_field position_field decimal_text decimal_field channel_count frequency_field rate_field
     samples_field leap_field station_fields analogue_fields status_fields configuration_of configuration_ahead
     lines_behind channel_lines decimal_of written_moment date_of clock_time_of days_from_civil day_count
@@ -204,7 +234,7 @@ check_verdicts = refl
 -- where the cfg is good, it and the dat are asked for, and nothing else
 pub names_of_both : AsksAll course
     (Some ((codes "a.cfg", worked_cfg (codes "3")) ∷ [])) (codes "a.cfg" ∷ codes "a.dat" ∷ [])
-unfolding settings_limits dat_report selected_configuration selected_of samples_of digits text_field
+unfolding settings_limits selected_configuration selected_of samples_of digits text_field
     number_field position_field decimal_text decimal_field channel_count frequency_field rate_field
     samples_field leap_field station_fields analogue_fields status_fields configuration_of configuration_ahead
     lines_behind channel_lines decimal_of written_moment date_of clock_time_of days_from_civil day_count

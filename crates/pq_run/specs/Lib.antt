@@ -4,4 +4,6 @@ pub mod Emitting
 pub mod Generating
 pub mod Measuring
 pub mod Program
+pub mod RecordingFiles
+pub mod Replaying
 pub mod SettingsLimits

@@ -12,6 +12,8 @@ mod emitting;
 mod generating;
 mod measuring;
 mod program;
+mod recording_files;
+mod replaying;
 mod selected_cfg;
 mod settings;
 mod streams;

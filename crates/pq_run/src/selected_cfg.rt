@@ -1,10 +1,8 @@
 // A configuration and the channels of it that are measured.
 ghost use Rattle.std.specs.Prelude.{IfErr};
 ghost use Rattle.comtrade_cfg.specs.Selecting.{wanted_view};
-ghost use Rattle.pq_run.specs.Measuring.{selected_cfg_view, selected_configuration};
-ghost use Rattle.pq_words.specs.FirstFault.{GivesUnless};
+ghost use Rattle.pq_run.specs.RecordingFiles.{GivesSelected, selected_configuration};
 ghost use Rattle.status_text.specs.Refusals.{IsRefusing};
-ghost use Rattle.status_text.specs.declared.status.Status.TheVariants as status;
 
 use comtrade_cfg::{Cfg, Selection, read_cfg, select};
 use status_text::Status;
@@ -18,14 +16,14 @@ pub struct SelectedCfg {
 }
 
 /// The configuration that a cfg says, with its wanted channels and its reference, or the cfg's refusal.
-#[tactic(auto, unfolding(crate::specs::Measuring::selected_configuration))]
+#[tactic(auto, unfolding(crate::specs::RecordingFiles::selected_configuration))]
 pub fn selected_cfg(
     alloc: Global,
     cfg: &[u8],
     wanted: Option<&[u32]>,
     reference: Option<u32>,
 ) -> Result<SelectedCfg, Status>
-    ensures value { GivesUnless status.OutOfMemory selected_cfg_view result
+    ensures value { GivesSelected result
         (selected_configuration (wanted_view wanted.entry) reference cfg.now) }
     ensures refuses { IfErr result IsRefusing }
 {

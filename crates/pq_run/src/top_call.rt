@@ -1,12 +1,13 @@
 // The top calls: each has commands of its own, and reads and writes in the same way.
 ghost use Rattle.pq_course.specs.Parts.{IsRead};
-ghost use Rattle.pq_course.specs.TopCall.{IsTopCall, call_of, reading_of};
-ghost use Rattle.pq_run.specs.Commands.{analyse_course, still_course};
+ghost use Rattle.pq_course.specs.TopCall.{call_of, reading_of};
+ghost use Rattle.pq_run.specs.Commands.{IsAnalyseCall, IsStillCall, analyse_course, still_course};
 
 use crate::check::check;
 use crate::emitting::emitted_text;
 use crate::generating::generated_summary;
 use crate::measuring::measured_report;
+use crate::replaying::schedule_replay;
 use command_words::{Command, WordsFault, read_words};
 use lane_workers::Gate;
 use pq_base::{Shelf, Sink, Text};
@@ -30,7 +31,7 @@ pub fn analyse<R: Threads + Wait + Sync, K: Shelf, O: Sink, G: Gate + Sync>(
     out: &mut O,
     _gate: &G,
 ) -> Status
-    ensures { IsTopCall (analyse_course words.now)
+    ensures { IsAnalyseCall words.now
         (call_of K.Shelf O.Sink shelf.old shelf.new out.old out.new) result }
 {
     match analysed_text(alloc, words, shelf) {
@@ -39,15 +40,15 @@ pub fn analyse<R: Threads + Wait + Sync, K: Shelf, O: Sink, G: Gate + Sync>(
     }
 }
 
-/// Runs the command `check`, `intervals` or `emit` that the words say. It always returns, and promises what
-/// `analyse` does.
+/// Runs the command `check`, `intervals`, `replay` or `emit` that the words say. It always returns, and
+/// promises what `analyse` does.
 pub fn still<K: Shelf, O: Sink>(
     alloc: Global,
     words: &[String],
     shelf: &mut K,
     out: &mut O,
 ) -> Status
-    ensures { IsTopCall (still_course words.now)
+    ensures { IsStillCall words.now
         (call_of K.Shelf O.Sink shelf.old shelf.new out.old out.new) result }
 {
     match still_text(alloc, words, shelf) {
@@ -79,9 +80,14 @@ fn still_text<K: Shelf>(alloc: Global, words: &[String], shelf: &mut K) -> Resul
     match read_words(alloc, words) {
         Ok(Command::Check { cfg }) => check(alloc, cfg, shelf),
         Ok(Command::Intervals(measuring)) => measured_report(alloc, &measuring, shelf),
+        Ok(
+            Command::Replay {
+                measuring,
+                schedule,
+            },
+        ) => schedule_replay(alloc, &measuring, schedule, shelf),
         Ok(Command::Emit { part, seed }) => emitted_text(alloc, part, seed),
         Ok(Command::Analyse(_)) => Err(Status::Usage),
-        Ok(Command::Replay { .. }) => Err(Status::Usage),
         Ok(Command::Generate { .. }) => Err(Status::Usage),
         Err(WordsFault::NotUnderstood) => Err(Status::Usage),
         Err(WordsFault::OutOfMemory) => Err(Status::OutOfMemory),

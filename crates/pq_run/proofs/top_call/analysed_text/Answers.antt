@@ -5,7 +5,7 @@ use Rattle.command_words.specs.declared.command.WordsFault.{WordsFault}
 use Rattle.pq_course.proofs.ReadingLemmas.{out_of_memory, quiet, refused}
 use Rattle.pq_course.specs.Parts.{IsRead}
 use Rattle.pq_course.specs.TopCall.{Reading, reading_of}
-use Rattle.pq_run.proofs.MeasuringLemmas.{judged_text}
+use Rattle.pq_run.proofs.RecordingLemmas.{judged_text}
 use Rattle.pq_run.specs.Commands.{analyse_course, analyse_task_course}
 use Rattle.pq_run.specs.Generating.{generated_summary}
 use Rattle.status_text.specs.declared.status.Status.TheVariants as status
@@ -25,8 +25,8 @@ returns-in-Ok-Generate g c =
     let r : Reading = reading_of g.K.Shelf c.args.shelf.now c.args.shelf.now in
     subst (λ (task : Result Task WordsFault). IsRead (analyse_task_course task) r c.generated_summary.result)
     (ap (λ (x : Command). Ok (command_view x)) (sym e.field-0-is) ∙ sym e.ensures.value)
-    (judged_text (Ok (generated_summary e.seed)) c.generated_summary.result r c.generated_summary.ensures.value
-    c.generated_summary.ensures.refuses (quiet g.K.Shelf c.args.shelf.now))
+    (judged_text (Ok (generated_summary e.seed)) c.generated_summary.result r
+    c.generated_summary.ensures.value c.generated_summary.ensures.refuses (quiet g.K.Shelf c.args.shelf.now))
 
 -- it is one of the other call
 pub returns-in-Ok-Check : goal.returns-in-Ok-Check

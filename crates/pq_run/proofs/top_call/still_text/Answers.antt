@@ -5,7 +5,7 @@ use Rattle.command_words.specs.declared.command.WordsFault.{WordsFault}
 use Rattle.pq_course.proofs.ReadingLemmas.{out_of_memory, quiet, refused}
 use Rattle.pq_course.specs.Parts.{IsRead}
 use Rattle.pq_course.specs.TopCall.{Reading, reading_of}
-use Rattle.pq_run.proofs.MeasuringLemmas.{judged_text}
+use Rattle.pq_run.proofs.RecordingLemmas.{judged_text}
 use Rattle.pq_run.specs.Emitting.{emitted_text}
 use Rattle.pq_run.specs.Commands.{still_course, still_task_course}
 use Rattle.status_text.specs.declared.status.Status.TheVariants as status
@@ -26,6 +26,13 @@ returns-in-Ok-Intervals g c =
     (reading_of g.K.Shelf c.args.shelf.now c.measured_report.new.shelf) c.measured_report.result)
     (ap (λ (x : Command). Ok (command_view x)) (sym c.in-Ok-Intervals.field-0-is)
     ∙ sym c.in-Ok-Intervals.ensures.value) c.measured_report.ensures
+
+pub returns-in-Ok-Replay : goal.returns-in-Ok-Replay
+returns-in-Ok-Replay g c =
+    subst (λ (task : Result Task WordsFault). IsRead (still_task_course task)
+    (reading_of g.K.Shelf c.args.shelf.now c.schedule_replay.new.shelf) c.schedule_replay.result)
+    (ap (λ (x : Command). Ok (command_view x)) (sym c.in-Ok-Replay.field-0-is)
+    ∙ sym c.in-Ok-Replay.ensures.value) c.schedule_replay.ensures
 
 pub returns-in-Ok-Emit : goal.returns-in-Ok-Emit
 returns-in-Ok-Emit g c =
@@ -51,14 +58,6 @@ returns-in-Ok-Generate g c =
     subst (λ (task : Result Task WordsFault). IsRead (still_task_course task) r (Err status.Usage))
     (ap (λ (x : Command). Ok (command_view x)) (sym c.in-Ok-Generate.field-0-is)
     ∙ sym c.in-Ok-Generate.ensures.value)
-    (refused status.Usage r tt (quiet g.K.Shelf c.args.shelf.now))
-
-pub returns-in-Ok-Replay : goal.returns-in-Ok-Replay
-returns-in-Ok-Replay g c =
-    let r : Reading = reading_of g.K.Shelf c.args.shelf.now c.args.shelf.now in
-    subst (λ (task : Result Task WordsFault). IsRead (still_task_course task) r (Err status.Usage))
-    (ap (λ (x : Command). Ok (command_view x)) (sym c.in-Ok-Replay.field-0-is)
-    ∙ sym c.in-Ok-Replay.ensures.value)
     (refused status.Usage r tt (quiet g.K.Shelf c.args.shelf.now))
 
 -- there is no memory for what they say
