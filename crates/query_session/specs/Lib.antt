@@ -1,0 +1,10 @@
+pub mod Ahead
+pub mod Bounds
+pub mod Chain
+pub mod LaneSeat
+pub mod Least
+pub mod Reading
+pub mod SeatStage
+pub mod Session
+pub mod Shown
+pub mod Stage

@@ -1,0 +1,31 @@
+// A session waits for its next item.
+ghost use Rattle.std.specs.Prelude.{◌≡◌};
+ghost use Rattle.query_session.specs.Reading.{cursor_after};
+ghost use Rattle.query_session.specs.Session.{IsIdle, IsSessionOf, WaitAnswers};
+
+use crate::answer::Next;
+use crate::chain::Chain;
+use crate::session::SessionOf;
+use interval_ledger::Ledger;
+use std::sync::Wait;
+
+impl SessionOf<Ledger> {
+    /// `next` again while it answers Withheld or Busy. It may wait for others.
+    pub fn next_wait<R: Wait>(&mut self, rt: &R, chain: &Chain) -> Next
+        requires mine { IsSessionOf chain.now self.old }
+        requires idle { IsIdle self.old }
+        ensures mine { IsSessionOf chain.now self.new }
+        ensures idle { IsIdle self.new }
+        ensures answers { WaitAnswers self.old self.new result }
+        ensures cursor { self.new.cursor ≡ cursor_after self.old.cursor result }
+    {
+        for _ in rt.forever() {
+            match self.next(chain) {
+                Next::Withheld { .. } => {}
+                Next::Busy { .. } => {}
+                next => return next,
+            }
+        }
+        unreachable!()
+    }
+}
