@@ -58,15 +58,26 @@ fn main(rt: HostRuntime) -> Result<(), std::io::Error> {
     let Ok(mut ledger) = Ledger::open(alloc, &recording, &limits) else {
         return Ok(());
     };
-    let start = Instant::now(&rt)?;
-    let posted = post_all(&mut ledger, &measured, ORDER);
-    let elapsed = start.elapsed(&rt)?;
+    let nanoseconds = time(&rt, &mut ledger, &measured)?;
     let items = count(&ledger, &measured);
-    if posted.is_ok() {
-        let each = elapsed.as_nanos() / u128::from(items.max(1));
-        println!(rt; "{items} lane items, {} released, {each} ns a lane item", ledger.released())?;
+    let each = nanoseconds / u128::from(items.max(1));
+    println!(rt; "{items} lane items, {} released, {each} ns a lane item", ledger.released())
+}
+
+// How many nanoseconds posting takes.
+fn time(
+    rt: &HostRuntime,
+    ledger: &mut Ledger,
+    measured: &Measured<'_>,
+) -> Result<u128, std::io::Error>
+    requires { IsOf ledger.old measured.now }
+    ensures { IsOf ledger.new measured.now }
+{
+    let start = Instant::now(rt)?;
+    if post_all(ledger, measured, ORDER).is_err() {
+        return Ok(0);
     }
-    Ok(())
+    Ok(start.elapsed(rt)?.as_nanos())
 }
 
 fn recording(alloc: Global) -> Option<Recording> {
