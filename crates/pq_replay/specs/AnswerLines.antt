@@ -183,6 +183,10 @@ SchedulesAreAnswered = (r : Recorded) (limits : Limits) (text : Text) (lines : L
 abbrev pub HasPlayed : Option (List Answer × Core) → Bool → List Answer → Core → Type 0
 HasPlayed given allowed answers new = MatchBool allowed (given ≡ Some (answers, new)) (given ≡ None)
 
+-- the same of steps that were played from a core on
+abbrev pub Plays : Measured → List Step → Core → Bool → List Answer → Core → Type 0
+Plays m steps old allowed answers new = HasPlayed (answers_along m old steps) allowed answers new
+
 -- an item that is answered is in range
 abbrev pub IsAnswerInRange : Answer → Type 0
 IsAnswerInRange a = (i : Item) → a ≡ answer.Item i → IsItemInRange i

@@ -1,6 +1,6 @@
 // The answers of the core steps of a line.
 ghost use Rattle.std.specs.Prelude.{◌≡◌, IfOk};
-ghost use Rattle.pq_replay.specs.AnswerLines.{HasPlayed, answers_along, is_refusal};
+ghost use Rattle.pq_replay.specs.AnswerLines.{Plays, is_refusal};
 
 use chain_core::{Answer, Machine, Measurement, Step};
 use std::alloc::{AllocError, Global};
@@ -14,8 +14,8 @@ pub(crate) fn play_steps(
     answers: &mut Vec<Answer>,
     alloc: Global,
 ) -> Result<bool, AllocError>
-    ensures { IfOk result (λ ok. HasPlayed (answers_along measurement.now machine.old steps.now) ok
-        answers.new.items machine.new) }
+    ensures { IfOk result (λ ok. Plays measurement.now steps.now machine.old ok answers.new.items
+        machine.new) }
 {
     answers.clear();
     for step in steps {
