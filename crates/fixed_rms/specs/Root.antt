@@ -23,9 +23,13 @@ isqrt x = root_in 64 x
 abbrev pub square : ℕ → ℕ
 square n = n * n
 
+-- the sum of the squares of samples in microvolts, in square microvolts
+abbrev pub sum_of_squares : List ℤ → ℕ
+sum_of_squares samples = sum_by (λ sample. square (unsigned_abs sample)) samples
+
 -- the mean of the squares of samples in microvolts, rounded down
 unfoldable pub mean_square : List ℤ → ℕ
-mean_square samples = sum_by (λ sample. square (unsigned_abs sample)) samples / length samples
+mean_square samples = sum_of_squares samples / length samples
 
 -- the root of the mean square of samples, in microvolts (5.2)
 unfoldable pub rms : List ℤ → ℕ

@@ -3,7 +3,7 @@
 #![tactic(auto)]
 
 pub use integer_root::isqrt;
-pub use mean_root::{mean_square, rms, root_mean};
+pub use mean_root::{mean_square, rms, root_mean, root_of_mean, sum_of_squares};
 
 mod integer_root;
 mod mean_root;

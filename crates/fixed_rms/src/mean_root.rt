@@ -1,10 +1,35 @@
 // Roots of mean squares.
-ghost use Rattle.std.specs.Prelude.{◌≡◌, ◌^◌, ◌<◌, ◌≤◌, length};
-ghost use Rattle.fixed_rms.specs.Root.{AreRoots, IsGreatestRoot, mean_of_squares, mean_square, rms, root_mean};
+ghost use Rattle.std.specs.Prelude.{◌≡◌, ◌*◌, ◌/◌, ◌^◌, ◌<◌, ◌≤◌, length};
+ghost use Rattle.fixed_rms.specs.Root.{AreRoots, IsGreatestRoot, isqrt, sum_of_squares};
+ghost use Rattle.fixed_rms.specs.Root.{mean_of_squares, mean_square, rms, root_mean};
 ghost use Rattle.pq_words.specs.Samples.{AreSamples};
 
 use crate::integer_root::{isqrt, square};
 use pq_words::MOST_MICROVOLTS;
+
+/// The sum of the squares of samples in microvolts, in square microvolts.
+pub fn sum_of_squares(samples: &[i64]) -> u128
+    requires { AreSamples samples.now }
+    ensures value { result ≡ sum_of_squares samples.now }
+    ensures within { result ≤ length samples.now * MOST_MICROVOLTS ^ 2 }
+{
+    let mut sum = 0;
+    for sample in samples {
+        sum += square(sample.unsigned_abs());
+    }
+    sum
+}
+
+/// The root of the mean of so many squares of this sum, in microvolts, rounded down.
+pub fn root_of_mean(sum: u128, count: u64) -> u64
+    requires some { 0 < count }
+    requires within { sum ≤ count * MOST_MICROVOLTS ^ 2 }
+    ensures value { result ≡ isqrt (sum / count) }
+    ensures greatest { IsGreatestRoot (sum / count) result }
+    ensures within { result ≤ MOST_MICROVOLTS }
+{
+    isqrt(sum / u128::from(count))
+}
 
 /// The mean of the squares of samples in microvolts, rounded down, in square microvolts.
 pub fn mean_square(samples: &[i64]) -> u128
@@ -13,11 +38,7 @@ pub fn mean_square(samples: &[i64]) -> u128
     ensures value { result ≡ mean_square samples.now }
     ensures within { result ≤ MOST_MICROVOLTS ^ 2 }
 {
-    let mut sum = 0;
-    for sample in samples {
-        sum += square(sample.unsigned_abs());
-    }
-    sum / samples.len() as u128
+    sum_of_squares(samples) / samples.len() as u128
 }
 
 /// The root of the mean square of samples in microvolts, in microvolts, rounded down (5.2).
@@ -44,5 +65,5 @@ pub fn root_mean(values: &[u64]) -> u64
     for value in values {
         sum += square(*value);
     }
-    isqrt(sum / values.len() as u128)
+    root_of_mean(sum, values.len() as u64)
 }

@@ -44,6 +44,10 @@ fn worked_values(rt: HostRuntime) -> Result<(), Fail> {
         10_000_000_000_000
     );
     assert_eq!(rt; mean_square(&[3, -4]), 12);
+    assert_eq!(rt; sum_of_squares(&[3, -4]), 25);
+    assert_eq!(rt; sum_of_squares(&[]), 0);
+    assert_eq!(rt; root_of_mean(35, 4), 2);
+    assert_eq!(rt; root_of_mean(36, 4), 3);
     assert_eq!(rt; rms(&SINE), 229_805_362);
     assert_eq!(rt; rms(&[227_500_000, -227_500_000]), 227_500_000);
     assert_eq!(rt; rms(&[5, -3, 1, 0]), 2);

@@ -1,3 +1,4 @@
 mod StandardFacts
+pub mod SquareLaws
 pub mod WindowLaws
 pub mod WindowBounds

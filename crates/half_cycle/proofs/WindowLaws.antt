@@ -2,7 +2,7 @@
 use Rattle.std.proofs.Common.{◌≡◌, ℕ, suc, ◌<◌, ◌≤◌, List, [], ◌∷◌, length, Option, Some, None, IfSome, ℤ, refl, sym, ap, subst, arith}
 use Rattle.std.proofs.lemmas.List.Elements.{All-tail}
 use Rattle.half_cycle.specs.HalfCycleWindow.{window_between, windows_over}
-use Rattle.half_cycle.specs.Windows.{windows_left, AreFirstTwo, IsSound}
+use Rattle.half_cycle.specs.Windows.{windows_left, squares_between, AreFirstTwo, IsSound}
 use Rattle.zero_cross.specs.declared.boundary.Boundary.{Boundary}
 use Rattle.zero_cross.specs.Boundary.{AreBoundaries, places_of}
 
@@ -15,7 +15,7 @@ fewer_boundaries p ps n are = record {
 }
 
 -- the first three of them
-pub three_in_order : (a b c n : ℕ) (ps : List ℕ) → AreBoundaries (a ∷ b ∷ c ∷ ps) n →
+three_in_order : (a b c n : ℕ) (ps : List ℕ) → AreBoundaries (a ∷ b ∷ c ∷ ps) n →
     (a < b) × (b < c) × (c < n)
 three_in_order a b c n ps are = (
   are.rising 0 1 0 (omega arith) (omega arith),
@@ -57,10 +57,24 @@ two_within s None all later is are = tt
 two_within s (Some two) all later is are = subst (λ ps. AreBoundaries ps (length s)) is are
 
 -- the first three, where a third follows
-pub three_boundaries : (s : List ℤ) (next_two : Option (ℕ × ℕ)) (two : ℕ × ℕ) (later rest : List Boundary)
-    (third : Boundary) → next_two ≡ Some two → later ≡ third ∷ rest → IsSound s next_two later
+pub three_boundaries : {s : List ℤ} {next_two : Option (ℕ × ℕ)} {two : ℕ × ℕ} {kept : ℕ}
+    {later rest : List Boundary} {third : Boundary} → next_two ≡ Some two → later ≡ third ∷ rest
+    → IsSound s next_two kept later
     → AreBoundaries (two.0 ∷ two.1 ∷ third.place ∷ places_of rest) (length s)
-three_boundaries s next_two two later rest third is splits sound =
+three_boundaries {s} {next_two} {two} {kept} {later} {rest} {third} is splits sound =
     let here = subst (λ o. IfSome o (λ two. AreBoundaries (two.0 ∷ two.1 ∷ places_of later) (length s))) is
     sound.boundaries in
     subst (λ bs. AreBoundaries (two.0 ∷ two.1 ∷ places_of bs) (length s)) splits here
+
+-- where these three lie
+pub three_places : {s : List ℤ} {next_two : Option (ℕ × ℕ)} {two : ℕ × ℕ} {kept : ℕ}
+    {later rest : List Boundary} {third : Boundary} → next_two ≡ Some two → later ≡ third ∷ rest
+    → IsSound s next_two kept later → (two.0 < two.1) × (two.1 < third.place) × (third.place < length s)
+three_places {s} {next_two} {two} {kept} {later} {rest} {third} is splits sound =
+    three_in_order two.0 two.1 third.place (length s) (places_of rest) (three_boundaries is splits sound)
+
+-- the kept sum, where two boundaries are left
+pub kept_sum : {s : List ℤ} {next_two : Option (ℕ × ℕ)} {two : ℕ × ℕ} {kept : ℕ} {later : List Boundary} →
+    next_two ≡ Some two → IsSound s next_two kept later → kept ≡ squares_between s two.0 two.1
+kept_sum {s} {next_two} {two} {kept} is sound =
+    subst (λ o. IfSome o (λ two. kept ≡ squares_between s two.0 two.1)) is sound.sum

@@ -1,23 +1,27 @@
 // The windows of a channel, one after another.
-ghost use Rattle.std.specs.Prelude.{◌≡◌, ◌<◌, ◌≤◌, length};
+ghost use Rattle.std.specs.Prelude.{◌≡◌, ◌-◌, ◌*◌, ◌/◌, ◌^◌, ◌<◌, ◌≤◌, length};
 ghost use Rattle.std.specs.Iterator.{YieldsFirst, item_count};
-ghost use Rattle.half_cycle.specs.HalfCycleWindow.{window_between, windows};
-ghost use Rattle.half_cycle.specs.Windows.{AreFirstTwo};
+ghost use Rattle.half_cycle.specs.HalfCycleWindow.{windows};
+ghost use Rattle.fixed_rms.specs.Root.{isqrt};
+ghost use Rattle.half_cycle.specs.Windows.{AreFirstTwo, squares_between};
 ghost use Rattle.zero_cross.specs.Boundary.{IsRule};
 ghost use Rattle.pq_words.specs.Samples.{AreSamples};
 
 use event_detect::Window;
-use fixed_rms::rms;
+use fixed_rms::{root_of_mean, sum_of_squares};
+use pq_words::MOST_MICROVOLTS;
 use std::marker::Model;
 use zero_cross::{Boundaries, Rule};
 
 /// The half-cycle windows of a channel, in order, each with its root in microvolts (5.4): an
-/// iterator, seen as the list of those that are left. Each root is summed anew.
+/// iterator, seen as the list of those that are left. Each sample is squared once.
 #[derive(Drop)]
 pub struct Windows<'a> {
     samples: &'a [i64],
     // The places of the next two boundaries; None where there are fewer.
     next_two: Option<(u64, u64)>,
+    // The sum of the squares of the samples between the two.
+    sum: u128,
     // The boundaries after them.
     boundaries: Boundaries<'a>,
 }
@@ -32,7 +36,7 @@ impl<'a> Model for Windows<'a> {
 
     ghost view = { λ w. windows_left w.samples.now w.next_two w.boundaries };
 
-    ghost invariant = { λ w. IsSound w.samples.now w.next_two w.boundaries };
+    ghost invariant = { λ w. IsSound w.samples.now w.next_two w.sum w.boundaries };
 }
 
 impl<'a> Windows<'a> {
@@ -44,9 +48,14 @@ impl<'a> Windows<'a> {
     {
         let mut boundaries = Boundaries::new(samples, rule);
         let next_two = two_places(&mut boundaries);
+        let sum = match next_two {
+            Some((start, middle)) => squares_between(samples, start, middle),
+            None => 0,
+        };
         Windows {
             samples,
             next_two,
+            sum,
             boundaries,
         }
     }
@@ -62,8 +71,11 @@ impl<'a> Iterator for Windows<'a> {
     fn next(&mut self) -> Option<Window> {
         let (start, middle) = self.next_two?;
         let end = self.boundaries.next()?.place;
+        let first = self.sum;
+        let second = squares_between(self.samples, middle, end);
         self.next_two = Some((middle, end));
-        Some(window(self.samples, start, end))
+        self.sum = second;
+        Some(window(start, end, first + second))
     }
 }
 
@@ -76,17 +88,25 @@ fn two_places(boundaries: &mut Boundaries<'_>) -> Option<(u64, u64)>
     Some((start, middle))
 }
 
-// The window from a place up to another.
-#[tactic(auto, unfolding(crate::specs::HalfCycleWindow::window_between))]
-fn window(samples: &[i64], start: u64, end: u64) -> Window
+// The sum of the squares of the samples from a place up to another.
+fn squares_between(samples: &[i64], start: u64, end: u64) -> u128
     requires some { start < end }
     requires inside { end ≤ length samples.now }
     requires samples { AreSamples samples.now }
-    ensures { result ≡ window_between samples.now start end }
+    ensures { result ≡ squares_between samples.now start end }
+{
+    sum_of_squares(&samples[start as usize..end as usize])
+}
+
+// The window from a place up to another, by the sum of the squares of the samples between.
+fn window(start: u64, end: u64, sum: u128) -> Window
+    requires some { start < end }
+    requires within { sum ≤ (end - start) * MOST_MICROVOLTS ^ 2 }
+    ensures { result ≡ record { start = start; end = end; value = isqrt (sum / (end - start)) } }
 {
     Window {
         start,
         end,
-        value: rms(&samples[start as usize..end as usize]),
+        value: root_of_mean(sum, end - start),
     }
 }
