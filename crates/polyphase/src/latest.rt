@@ -1,6 +1,6 @@
 // The latest value of each channel, and what they tell of each kind.
-ghost use Rattle.std.specs.Prelude.{◌≡◌, ◌<◌, length};
-ghost use Rattle.polyphase.specs.Latest.{no_values, with_value};
+ghost use Rattle.std.specs.Prelude.{◌≡◌, ◌<◌, length, IsTrue, IsFalse};
+ghost use Rattle.polyphase.specs.Latest.{BeginAlike, no_values, with_value};
 ghost use Rattle.polyphase.specs.PolyphaseEvent.{IsChannelCount, begins, ends};
 
 use crate::counts::Counts;
@@ -57,6 +57,25 @@ impl Latest {
         }
         self.values[index] = Some(value);
         self.counts = self.counts.with(classify(&self.limits, value));
+    }
+
+    // Puts the latest value of the channel at a position where the one before stands to the thresholds as
+    // this one does, so that no count changes: tells whether that is so.
+    pub(crate) fn put_alike(&mut self, position: u32, value: u64) -> bool
+        requires { position < length self.old.values }
+        ensures value { IsTrue result → self.new ≡ with_value self.old position value }
+        ensures begins { IsTrue result → BeginAlike self.old self.new }
+        ensures same { IsFalse result → self.new ≡ self.old }
+    {
+        let index = position as usize;
+        let Some(before) = self.values[index] else {
+            return false;
+        };
+        if classify(&self.limits, before) != classify(&self.limits, value) {
+            return false;
+        }
+        self.values[index] = Some(value);
+        true
     }
 
     // Takes all values out.
