@@ -1,6 +1,6 @@
 -- The latest values as they lie in a list with room for more channels.
-use Rattle.std.proofs.Common.{◌≡◌, ℕ, ◌<◌, ◌≤◌, zero, suc, cond, ◌+◌, ◌-◌, Bool, true, false, not, ◌&&◌, nat_lt, nat_eq, List, length, take, set, replicate, get_or, Option, Some, None, refl, sym, ◌∙◌, ap, subst, arith, length-set, length-take}
-use mathlib.Core.Bool.{beq}
+use Rattle.std.proofs.Common.{◌≡◌, ℕ, ◌<◌, ◌≤◌, zero, suc, cond, ◌+◌, ◌-◌, Bool, true, false, nat_le, nat_lt, nat_eq, List, length, take, set, replicate, get_or, Option, Some, None, refl, sym, ◌∙◌, ap, subst, arith, length-set, length-take}
+use Rattle.std.proofs.lemmas.Bool.Decides.{nat_tests}
 use Rattle.std.proofs.lemmas.List.{get_or-take}
 use Rattle.std.proofs.lemmas.List.Sums.{sum_by-cons}
 use Rattle.std.proofs.Math.Seq.{take-set-lt}
@@ -9,9 +9,9 @@ use Rattle.event_detect.specs.declared.kind.Kind.{Kind}
 use Rattle.event_detect.specs.declared.kind.Kind.TheVariants.{Dip, Swell, Interruption}
 use Rattle.event_detect.specs.declared.limits.Class.{Class}
 use Rattle.event_detect.specs.declared.limits.Limits.{Limits}
-use Rattle.event_detect.specs.Threshold.{class_of}
+use Rattle.event_detect.specs.Threshold.{IsInOrder, class_of}
 use Rattle.polyphase.specs.declared.counts.Counts.{Counts}
-use Rattle.polyphase.specs.Latest.{LatestView, IsAmong, IsCounted, count_of, counts_of, no_counts, no_values, one_if, with_class, with_value}
+use Rattle.polyphase.specs.Latest.{LatestView, calm, IsAmong, IsCounted, count_of, counts_of, no_counts, no_values, one_if, with_class, with_value}
 use Rattle.polyphase.specs.PolyphaseEvent.{begins, ends, is_there_and, value_is_past, value_is_back}
 use Rattle.polyphase.proofs.CountLaws.{any_counted, all_counted, there_counted, among_counts, counts_at_first, counts_in_place}
 
@@ -73,59 +73,19 @@ no_value_counted limits channels =
     let clear_interruption = none_counted (λ c. c.clear_interruption) limits channels in
     cc (there, below_dip, clear_dip, above_swell, clear_swell, below_interruption, clear_interruption)
 
--- ---- classes
-
-same_truth : (p q : Bool) → beq p q ≡ true → p ≡ q
-same_truth true true is = refl
-same_truth true false is = sym is
-same_truth false true is = is
-same_truth false false is = refl
-
-is_true : (p : Bool) → false ≡ not p → p ≡ true
-is_true true is = refl
-is_true false is = is
-
-abbrev of_fields : Class → Class
-of_fields class = record {
-  below_dip = class.below_dip;
-  clear_dip = class.clear_dip;
-  above_swell = class.above_swell;
-  clear_swell = class.clear_swell;
-  below_interruption = class.below_interruption;
-  clear_interruption = class.clear_interruption;
-}
-
-both : (p q : Bool) → (p && q) ≡ true → (p ≡ true) × (q ≡ true)
-both true q is = (refl, is)
-both false q is = absurd (let bad : ⊥ = cc in bad)
-
--- classes of which no field differs
-pub same_class : (a b : Class)
-    → false ≡ not (beq a.below_dip b.below_dip && (beq a.clear_dip b.clear_dip
-    && (beq a.above_swell b.above_swell && (beq a.clear_swell b.clear_swell
-    && (beq a.below_interruption b.below_interruption && beq a.clear_interruption b.clear_interruption)))))
-    → a ≡ b
-same_class a b is =
-    let last : Bool = beq a.clear_interruption b.clear_interruption in
-    let after_swell : Bool = beq a.below_interruption b.below_interruption && last in
-    let after_above : Bool = beq a.clear_swell b.clear_swell && after_swell in
-    let after_dip : Bool = beq a.above_swell b.above_swell && after_above in
-    let after_below : Bool = beq a.clear_dip b.clear_dip && after_dip in
-    let one = both (beq a.below_dip b.below_dip) after_below
-    (is_true (beq a.below_dip b.below_dip && after_below) is) in
-    let two = both (beq a.clear_dip b.clear_dip) after_dip one.1 in
-    let three = both (beq a.above_swell b.above_swell) after_above two.1 in
-    let four = both (beq a.clear_swell b.clear_swell) after_swell three.1 in
-    let five = both (beq a.below_interruption b.below_interruption) last four.1 in
-    let below_dip = same_truth a.below_dip b.below_dip one.0 in
-    let clear_dip = same_truth a.clear_dip b.clear_dip two.0 in
-    let above_swell = same_truth a.above_swell b.above_swell three.0 in
-    let clear_swell = same_truth a.clear_swell b.clear_swell four.0 in
-    let below_interruption = same_truth a.below_interruption b.below_interruption five.0 in
-    let clear_interruption = same_truth a.clear_interruption b.clear_interruption five.1 in
-    let whole : of_fields a ≡ of_fields b =
-    cc (below_dip, clear_dip, above_swell, clear_swell, below_interruption, clear_interruption) in
-    whole
+-- a value within all thresholds, by the least and the greatest of them
+pub calm_is : (limits : Limits) (value : ℕ) → IsInOrder limits → limits.dip_end ≤ value
+    → nat_le value limits.swell_end ≡ true → class_of limits value ≡ calm
+unfolding class_of
+calm_is limits value order low high =
+    let below_dip : nat_lt value limits.dip ≡ false = grind (arith, nat_tests, order.dip, low) in
+    let clear_dip : nat_le limits.dip_end value ≡ true = grind (arith, nat_tests, low) in
+    let above_swell : nat_lt limits.swell value ≡ false = grind (arith, nat_tests, order.swell, high) in
+    let below_interruption : nat_lt value limits.interruption ≡ false =
+    grind (arith, nat_tests, order.interruption, order.between, order.dip, low) in
+    let clear_interruption : nat_le limits.interruption_end value ≡ true =
+    grind (arith, nat_tests, order.between, order.dip, low) in
+    cc (below_dip, clear_dip, above_swell, high, below_interruption, clear_interruption)
 
 -- ---- one less
 

@@ -65,8 +65,8 @@ impl Poly {
         self.ask_all(position, window)
     }
 
-    /// Feeds the next window where no event runs and the value stands to the thresholds as the channel's
-    /// value before: then no event ends, and none begins. Tells whether that is so; else nothing is fed.
+    /// Feeds the next window where no event runs, and its value and the channel's before are within all
+    /// thresholds: then no event ends, and none begins. Tells whether that is so; else nothing is fed.
     pub fn pass(&mut self, position: u32, window: Window) -> bool
         requires { position < self.old.channels }
         ensures passed { IsTrue result → Passes self.old self.new (channel_window position window) }
@@ -74,7 +74,7 @@ impl Poly {
         ensures same { self.new.channels ≡ self.old.channels }
         ensures limits { self.new.limits ≡ self.old.limits }
     {
-        self.is_idle && self.latest.put_alike(position, window.value)
+        self.is_idle && self.latest.put_calm(position, window.value)
     }
 
     // Feeds the next window to each detector.
