@@ -1,5 +1,6 @@
 -- The latest values as they lie in a list with room for more channels.
-use Rattle.std.proofs.Common.{◌≡◌, ℕ, ◌<◌, ◌≤◌, zero, suc, cond, ◌+◌, Bool, true, nat_lt, nat_eq, List, length, take, set, replicate, get_or, Option, Some, None, refl, sym, ◌∙◌, ap, subst, arith, length-set, length-take}
+use Rattle.std.proofs.Common.{◌≡◌, ℕ, ◌<◌, ◌≤◌, zero, suc, cond, ◌+◌, ◌-◌, Bool, true, false, nat_le, nat_lt, nat_eq, List, length, take, set, replicate, get_or, Option, Some, None, refl, sym, ◌∙◌, ap, subst, arith, length-set, length-take}
+use Rattle.std.proofs.lemmas.Bool.Decides.{nat_tests}
 use Rattle.std.proofs.lemmas.List.{get_or-take}
 use Rattle.std.proofs.lemmas.List.Sums.{sum_by-cons}
 use Rattle.std.proofs.Math.Seq.{take-set-lt}
@@ -8,9 +9,9 @@ use Rattle.event_detect.specs.declared.kind.Kind.{Kind}
 use Rattle.event_detect.specs.declared.kind.Kind.TheVariants.{Dip, Swell, Interruption}
 use Rattle.event_detect.specs.declared.limits.Class.{Class}
 use Rattle.event_detect.specs.declared.limits.Limits.{Limits}
-use Rattle.event_detect.specs.Threshold.{class_of}
+use Rattle.event_detect.specs.Threshold.{IsInOrder, class_of}
 use Rattle.polyphase.specs.declared.counts.Counts.{Counts}
-use Rattle.polyphase.specs.Latest.{LatestView, IsAmong, IsCounted, count_of, counts_of, no_counts, no_values, with_class, with_value}
+use Rattle.polyphase.specs.Latest.{LatestView, calm, IsAmong, IsCounted, count_of, counts_of, no_counts, no_values, one_if, with_class, with_value}
 use Rattle.polyphase.specs.PolyphaseEvent.{begins, ends, is_there_and, value_is_past, value_is_back}
 use Rattle.polyphase.proofs.CountLaws.{any_counted, all_counted, there_counted, among_counts, counts_at_first, counts_in_place}
 
@@ -26,6 +27,14 @@ pub set_view : (limits : Limits) (channels : ℕ) (values : List (Option ℕ)) (
 set_view limits channels values position value inside =
     let made : List (Option ℕ) → LatestView = λ vs. record { limits = limits; values = vs } in
     ap made (take-set-lt channels values position (Some value) inside)
+
+-- the position is below the number of channels
+pub below : (position : ℕ) (limits : Limits) (channels : ℕ) (values : List (Option ℕ)) (latest : LatestView)
+    → values_view limits channels values ≡ latest → position < length latest.values → position < channels
+below position limits channels values latest is less =
+    let taken : position < length (take channels values) =
+    subst (λ (l : LatestView). position < length l.values) (sym is) less in
+    omega (arith, taken, length-take channels values)
 
 -- a test of a kind, by what was found of the kind and of the values
 abbrev Test : Type 0
@@ -63,6 +72,59 @@ no_value_counted limits channels =
     let below_interruption = none_counted (λ c. c.below_interruption) limits channels in
     let clear_interruption = none_counted (λ c. c.clear_interruption) limits channels in
     cc (there, below_dip, clear_dip, above_swell, clear_swell, below_interruption, clear_interruption)
+
+-- a value within all thresholds, by the least and the greatest of them
+pub calm_is : (limits : Limits) (value : ℕ) → IsInOrder limits → limits.dip_end ≤ value
+    → nat_le value limits.swell_end ≡ true → class_of limits value ≡ calm
+unfolding class_of
+calm_is limits value order low high =
+    let below_dip : nat_lt value limits.dip ≡ false = grind (arith, nat_tests, order.dip, low) in
+    let clear_dip : nat_le limits.dip_end value ≡ true = grind (arith, nat_tests, low) in
+    let above_swell : nat_lt limits.swell value ≡ false = grind (arith, nat_tests, order.swell, high) in
+    let below_interruption : nat_lt value limits.interruption ≡ false =
+    grind (arith, nat_tests, order.interruption, order.between, order.dip, low) in
+    let clear_interruption : nat_le limits.interruption_end value ≡ true =
+    grind (arith, nat_tests, order.between, order.dip, low) in
+    cc (below_dip, clear_dip, above_swell, high, below_interruption, clear_interruption)
+
+-- ---- one less
+
+abbrev less_class : Counts → Class → Counts
+less_class counts class = record {
+  there = counts.there - 1;
+  below_dip = counts.below_dip - one_if class.below_dip;
+  clear_dip = counts.clear_dip - one_if class.clear_dip;
+  above_swell = counts.above_swell - one_if class.above_swell;
+  clear_swell = counts.clear_swell - one_if class.clear_swell;
+  below_interruption = counts.below_interruption - one_if class.below_interruption;
+  clear_interruption = counts.clear_interruption - one_if class.clear_interruption;
+}
+
+back_to : (n m : ℕ) → n ≤ m → m - n + n ≡ m
+back_to n m fits = omega (arith, fits)
+
+less_then_more : (class : Class) (counts : Counts) → IsAmong class counts
+    → with_class (less_class counts class) class ≡ counts
+less_then_more class counts is =
+    let there = back_to 1 counts.there is.there in
+    let below_dip = back_to (one_if class.below_dip) counts.below_dip is.below_dip in
+    let clear_dip = back_to (one_if class.clear_dip) counts.clear_dip is.clear_dip in
+    let above_swell = back_to (one_if class.above_swell) counts.above_swell is.above_swell in
+    let clear_swell = back_to (one_if class.clear_swell) counts.clear_swell is.clear_swell in
+    let below_interruption =
+    back_to (one_if class.below_interruption) counts.below_interruption is.below_interruption in
+    let clear_interruption =
+    back_to (one_if class.clear_interruption) counts.clear_interruption is.clear_interruption in
+    let whole : with_class (less_class counts class) class ≡ record {
+      there = counts.there;
+      below_dip = counts.below_dip;
+      clear_dip = counts.clear_dip;
+      above_swell = counts.above_swell;
+      clear_swell = counts.clear_swell;
+      below_interruption = counts.below_interruption;
+      clear_interruption = counts.clear_interruption;
+    } = cc (there, below_dip, clear_dip, above_swell, clear_swell, below_interruption, clear_interruption) in
+    whole
 
 module _ (limits : Limits) (channels : ℕ) (values : List (Option ℕ)) (counts : Counts)
     (is : IsCounted limits channels values counts) where
@@ -174,3 +236,26 @@ module _ (limits : Limits) (channels : ℕ) (values : List (Option ℕ)) (counts
         set_counted v (with_class counts (class_of limits v))
         (ap (λ c. with_class c (class_of limits v)) is.counted
         ∙ counts_at_first limits (take channels values) position v within_front (found_in_front None found))
+
+    -- a value that stands to the thresholds as the one before it changes no count
+    pub counted_alike : (v b : ℕ) → get_or values position None ≡ Some b
+        → class_of limits b ≡ class_of limits v
+        → IsCounted limits channels (set values position (Some v)) counts
+    counted_alike v b found alike =
+        let left = less_class counts (class_of limits b) in
+        let back : with_class left (class_of limits b) ≡ counts =
+        less_then_more (class_of limits b) counts (among b found) in
+        subst (IsCounted limits channels (set values position (Some v)))
+        (ap (with_class left) (sym alike) ∙ back) (counted_in_place v b left found back)
+
+-- where the counts are the same, events begin alike
+pub begin_alike : (limits : Limits) (channels : ℕ) (values later : List (Option ℕ)) (counts : Counts)
+    → IsCounted limits channels values counts → IsCounted limits channels later counts
+    → (kind : Kind) → begins kind limits (take channels later) ≡ begins kind limits (take channels values)
+begin_alike limits channels values later counts is now Dip =
+    sym (dips_begin limits channels later counts now) ∙ dips_begin limits channels values counts is
+begin_alike limits channels values later counts is now Swell =
+    sym (swells_begin limits channels later counts now) ∙ swells_begin limits channels values counts is
+begin_alike limits channels values later counts is now Interruption =
+    sym (interruptions_begin limits channels later counts now)
+    ∙ interruptions_begin limits channels values counts is

@@ -8,8 +8,9 @@ use Rattle.event_detect.specs.declared.limits.Limits.{Limits}
 use Rattle.event_detect.specs.declared.window.Window.{Window}
 use Rattle.event_detect.specs.Detector.{OpenEvent, Watch, HasSeen as HasSeenConditions, Ends as EndsOfKind, SeesMore as SeesMoreOfKind, LeavesOpen as LeavesOpenOfKind, StartsOpen as StartsOpenOfKind}
 use Rattle.event_detect.specs.VoltageEvent.{Condition, IsLeftOpen, EndsAtLast, ended_events, open_start}
-use Rattle.polyphase.specs.Latest.{LatestView, no_values, with_value}
-use Rattle.polyphase.specs.Poly.{PolyView, poly_view, running_of, watch_of, channel_window, condition_of, HasSeen, answer_of, Ends, SeesMore, LeavesOpen, StartsOpen}
+use Rattle.event_detect.proofs.DetectorLaws.{idle_ends, idle_stays}
+use Rattle.polyphase.specs.Latest.{LatestView, BeginAlike, no_values, with_value}
+use Rattle.polyphase.specs.Poly.{PolyView, AreIdle, Passes, poly_view, running_of, watch_of, channel_window, condition_of, HasSeen, answer_of, Ends, SeesMore, LeavesOpen, StartsOpen}
 use Rattle.polyphase.specs.PolyphaseEvent.{ChannelWindow, condition_over, conditions, latest_values, EndsAtWindow}
 use Rattle.polyphase.proofs.ConditionLaws.{latest_values_push, latest_values_none, conditions_push, conditions_none}
 
@@ -116,3 +117,41 @@ nothing_seen channels limits d s i d_is s_is i_is dip swell interruption = recor
 pub starts_open : (p : PolyView) (kind : Kind) (answer : Option ℕ) → StartsOpenOfKind (watch_of p kind) answer
     → StartsOpen p kind answer
 starts_open p kind answer is fed seen = is (conditions kind p.limits p.channels fed) (seen.of_kind kind)
+
+-- ---- where no event runs and none begins
+
+abbrev idle_condition : LatestView → ℕ → Window → Kind → Condition
+idle_condition latest position window kind =
+    condition_of (with_value latest position window.value) position window kind
+
+-- the window passes by
+pub idle_passes : (latest : LatestView) (dips swells interruptions : Watch) (position : ℕ) (window : Window)
+    → AreIdle latest dips swells interruptions
+    → BeginAlike latest (with_value latest position window.value)
+    → Passes (poly_view latest dips swells interruptions)
+    (poly_view (with_value latest position window.value) dips swells interruptions)
+    (channel_window position window)
+idle_passes latest dips swells interruptions position window idle alike =
+    let old = poly_view latest dips swells interruptions in
+    let new = poly_view (with_value latest position window.value) dips swells interruptions in
+    let m = channel_window position window in
+    let at : Kind → Condition = idle_condition latest position window in
+    let dip : watch Dip None ≡ watch Dip dips.running = ap (watch Dip) (sym idle.dip.stands) in
+    let swell : watch Swell None ≡ watch Swell swells.running = ap (watch Swell) (sym idle.swell.stands) in
+    let interruption : watch Interruption None ≡ watch Interruption interruptions.running =
+    ap (watch Interruption) (sym idle.interruption.stands) in
+    let each : (kind : Kind) → SeesMoreOfKind (watch_of old kind) (watch_of new kind) (at kind) =
+    λ kind. elim kind as (λ k. SeesMoreOfKind (watch_of old k) (watch_of new k) (at k)) [
+      | Dip ↦ idle_stays (watch Dip dips.running) Dip (at Dip) dip (alike Dip ∙ idle.dip.stays)
+      | Swell ↦ idle_stays (watch Swell swells.running) Swell (at Swell) swell (alike Swell ∙ idle.swell.stays)
+      | Interruption ↦
+          idle_stays (watch Interruption interruptions.running) Interruption (at Interruption) interruption
+          (alike Interruption ∙ idle.interruption.stays)
+    ] in
+    record {
+      ends = all_end old m None None None
+          (idle_ends (watch Dip dips.running) Dip (at Dip) dip)
+          (idle_ends (watch Swell swells.running) Swell (at Swell) swell)
+          (idle_ends (watch Interruption interruptions.running) Interruption (at Interruption) interruption);
+      sees = all_see old new m (length-set latest.values position (Some window.value)) refl refl each;
+    }

@@ -1,11 +1,12 @@
 -- What contracts see of the latest values, and the counts that are kept of them.
-use Rattle.std.specs.Prelude.{◌≡◌, ℕ, ◌+◌, ◌≤◌, Bool, true, List, length, Option, Some, None, replicate, slice_set, take, if◌then◌else◌}
+use Rattle.std.specs.Prelude.{◌≡◌, ℕ, ◌+◌, ◌≤◌, Bool, true, false, List, length, Option, Some, None, replicate, slice_set, take, if◌then◌else◌}
 use Rattle.std.specs.List.{count_by}
+use Rattle.event_detect.specs.declared.kind.Kind.{Kind}
 use Rattle.event_detect.specs.declared.limits.Class.{Class}
 use Rattle.event_detect.specs.declared.limits.Limits.{Limits}
 use Rattle.event_detect.specs.Threshold.{class_of}
 use Rattle.polyphase.specs.declared.counts.Counts.{Counts}
-use Rattle.polyphase.specs.PolyphaseEvent.{IsChannelCount, is_there_and}
+use Rattle.polyphase.specs.PolyphaseEvent.{IsChannelCount, begins, is_there_and}
 
 -- the thresholds, and the latest value of each channel
 pub record LatestView : Type 0 where
@@ -20,6 +21,21 @@ no_values channels limits = record { limits = limits; values = replicate channel
 abbrev pub with_value : LatestView → ℕ → ℕ → LatestView
 with_value latest position value =
     record { limits = latest.limits; values = slice_set latest.values position (Some value) }
+
+-- the class of a value within all thresholds
+abbrev pub calm : Class
+calm = record {
+  below_dip = false;
+  clear_dip = true;
+  above_swell = false;
+  clear_swell = true;
+  below_interruption = false;
+  clear_interruption = true;
+}
+
+-- of no kind an event would begin with the one set of values and not with the other
+abbrev pub BeginAlike : LatestView → LatestView → Type 0
+BeginAlike old new = (kind : Kind) → begins kind new.limits new.values ≡ begins kind old.limits old.values
 
 -- how many of the values are there and have a class that passes
 abbrev pub count_of : (Class → Bool) → Limits → List (Option ℕ) → ℕ

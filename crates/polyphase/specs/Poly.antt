@@ -1,5 +1,5 @@
 -- What contracts see of a Poly, over the windows that it was fed.
-use Rattle.std.specs.Prelude.{◌≡◌, ℕ, List, [], ◌∷◌, ◌++◌, length, Option, None}
+use Rattle.std.specs.Prelude.{◌≡◌, ℕ, Bool, false, IsTrue, List, [], ◌∷◌, ◌++◌, length, Option, None}
 use Rattle.event_detect.specs.declared.event.Event.{Event}
 use Rattle.event_detect.specs.declared.kind.Kind.{Kind}
 use Rattle.event_detect.specs.declared.kind.Kind.TheVariants.{Dip, Swell, Interruption}
@@ -9,7 +9,7 @@ use Rattle.event_detect.specs.Detector.{OpenEvent, Watch, HasSeen as HasSeenCond
 use Rattle.event_detect.specs.Threshold.{IsInOrder}
 use Rattle.event_detect.specs.VoltageEvent.{Condition, IsLeftOpen, open_start}
 use Rattle.polyphase.specs.Latest.{LatestView}
-use Rattle.polyphase.specs.PolyphaseEvent.{ChannelWindow, condition_over, conditions, latest_values, EndsAtWindow}
+use Rattle.polyphase.specs.PolyphaseEvent.{ChannelWindow, begins, condition_over, conditions, latest_values, EndsAtWindow}
 
 -- a Poly: how many channels there are, the thresholds, the latest value of each channel, and the event of
 -- each kind that runs, if one does
@@ -32,9 +32,22 @@ poly_view latest dips swells interruptions = record {
   interruption = interruptions.running;
 }
 
--- the parts are those of a Poly: thresholds in order, and a detector of each kind
-pub record IsPoly (latest : LatestView) (dips swells interruptions : Watch) : Type 0 where
+-- no event of the detector's kind runs, and none would begin
+pub record IsIdle (kind : Kind) (latest : LatestView) (watch : Watch) : Type 0 where
+  pub stands : watch.running ≡ None
+  pub stays : begins kind latest.limits latest.values ≡ false
+
+-- so of each kind
+pub record AreIdle (latest : LatestView) (dips swells interruptions : Watch) : Type 0 where
+  pub dip : IsIdle Dip latest dips
+  pub swell : IsIdle Swell latest swells
+  pub interruption : IsIdle Interruption latest interruptions
+
+-- the parts are those of a Poly: thresholds in order, and a detector of each kind; it is idle only where no
+-- event runs and none would begin
+pub record IsPoly (latest : LatestView) (dips swells interruptions : Watch) (is_idle : Bool) : Type 0 where
   pub limits : IsInOrder latest.limits
+  pub idle : IsTrue is_idle → AreIdle latest dips swells interruptions
   pub dips_kind : dips.kind ≡ Dip
   pub swells_kind : swells.kind ≡ Swell
   pub interruptions_kind : interruptions.kind ≡ Interruption
@@ -79,6 +92,11 @@ Ends p m answers = (fed : List ChannelWindow) (kind : Kind) → HasSeen p fed
 -- whatever a Poly had seen, it has now seen one more window
 abbrev pub SeesMore : PolyView → PolyView → ChannelWindow → Type 0
 SeesMore old new m = (fed : List ChannelWindow) → HasSeen old fed → HasSeen new (fed ++ m ∷ [])
+
+-- one more window ends no event, and has been seen
+pub record Passes (old new : PolyView) (m : ChannelWindow) : Type 0 where
+  pub ends : Ends old m (None ∷ None ∷ None ∷ [])
+  pub sees : SeesMore old new m
 
 -- whatever a Poly has seen, these events of the kinds in order are left open at n, or none
 abbrev pub LeavesOpen : PolyView → ℕ → List (Option Event) → Type 0

@@ -1,6 +1,7 @@
 // The latest value of each channel, and what they tell of each kind.
-ghost use Rattle.std.specs.Prelude.{◌≡◌, ◌<◌, length};
-ghost use Rattle.polyphase.specs.Latest.{no_values, with_value};
+ghost use Rattle.std.specs.Prelude.{◌≡◌, ◌<◌, length, IsTrue, IsFalse};
+ghost use Rattle.event_detect.specs.Threshold.{IsInOrder, class_of};
+ghost use Rattle.polyphase.specs.Latest.{BeginAlike, calm, no_values, with_value};
 ghost use Rattle.polyphase.specs.PolyphaseEvent.{IsChannelCount, begins, ends};
 
 use crate::counts::Counts;
@@ -59,6 +60,28 @@ impl Latest {
         self.counts = self.counts.with(classify(&self.limits, value));
     }
 
+    // Puts the latest value of the channel at a position where this one and the one before are within all
+    // thresholds, so that no count changes: tells whether that is so.
+    pub(crate) fn put_calm(&mut self, position: u32, value: u64) -> bool
+        requires inside { position < length self.old.values }
+        requires limits { IsInOrder self.old.limits }
+        ensures value { IsTrue result → self.new ≡ with_value self.old position value }
+        ensures begins { IsTrue result → BeginAlike self.old self.new }
+        ensures same { IsFalse result → self.new ≡ self.old }
+    {
+        let Some(before) = self.values[position as usize] else {
+            return false;
+        };
+        if !is_calm(&self.limits, before) {
+            return false;
+        }
+        if !is_calm(&self.limits, value) {
+            return false;
+        }
+        self.values[position as usize] = Some(value);
+        true
+    }
+
     // Takes all values out.
     pub(crate) fn clear(&mut self)
         ensures { self.new ≡ no_values (length self.old.values) self.old.limits }
@@ -87,4 +110,12 @@ impl Latest {
             Kind::Interruption => self.counts.clear_interruption > 0,
         }
     }
+}
+
+// Whether a value is within all thresholds: past none that begins an event, and back past each that ends one.
+fn is_calm(limits: &Limits, value: u64) -> bool
+    requires { IsInOrder limits.now }
+    ensures { IsTrue result → class_of limits.now value ≡ calm }
+{
+    limits.dip_end <= value && value <= limits.swell_end
 }

@@ -1,8 +1,8 @@
 // The machine that finds the events of all kinds over all channels, window by window.
-ghost use Rattle.std.specs.Prelude.{◌≡◌, ◌<◌, [], option_map};
+ghost use Rattle.std.specs.Prelude.{◌≡◌, ◌<◌, [], option_map, IsTrue, IsFalse};
 ghost use Rattle.event_detect.specs.Detector.{Ends as EndsOfKind, SeesMore as SeesMoreOfKind};
 ghost use Rattle.event_detect.specs.Threshold.{IsInOrder};
-ghost use Rattle.polyphase.specs.Poly.{Ends, HasSeen, LeavesOpen, SeesMore, StartsOpen, channel_window, condition_of, running_of};
+ghost use Rattle.polyphase.specs.Poly.{AreIdle, Ends, HasSeen, IsIdle, LeavesOpen, Passes, SeesMore, StartsOpen, channel_window, condition_of, running_of};
 ghost use Rattle.polyphase.specs.PolyphaseEvent.{IsChannelCount};
 
 use crate::latest::Latest;
@@ -17,6 +17,8 @@ pub struct Poly {
     dips: Detector,
     swells: Detector,
     interruptions: Detector,
+    // Whether it is known that no event runs and none would begin.
+    is_idle: bool,
 }
 
 impl Model for Poly {
@@ -26,7 +28,7 @@ impl Model for Poly {
 
     ghost view = { λ p. poly_view p.latest p.dips p.swells p.interruptions };
 
-    ghost invariant = { λ p. IsPoly p.latest p.dips p.swells p.interruptions };
+    ghost invariant = { λ p. IsPoly p.latest p.dips p.swells p.interruptions p.is_idle };
 }
 
 impl Poly {
@@ -43,6 +45,7 @@ impl Poly {
             dips: Detector::new(Kind::Dip),
             swells: Detector::new(Kind::Swell),
             interruptions: Detector::new(Kind::Interruption),
+            is_idle: false,
         }
     }
 
@@ -50,6 +53,32 @@ impl Poly {
     /// of `Kind`. The events are those of all windows in the order in which they are fed: the standard's
     /// where this is the order of the merged windows, by start and then by channel.
     pub fn step(&mut self, position: u32, window: Window) -> [Option<Event>; 3]
+        requires { position < self.old.channels }
+        ensures value { Ends self.old (channel_window position window) result }
+        ensures seen { SeesMore self.old self.new (channel_window position window) }
+        ensures same { self.new.channels ≡ self.old.channels }
+        ensures limits { self.new.limits ≡ self.old.limits }
+    {
+        if self.pass(position, window) {
+            return [None, None, None];
+        }
+        self.ask_all(position, window)
+    }
+
+    /// Feeds the next window where no event runs, and its value and the channel's before are within all
+    /// thresholds: then no event ends, and none begins. Tells whether that is so; else nothing is fed.
+    pub fn pass(&mut self, position: u32, window: Window) -> bool
+        requires { position < self.old.channels }
+        ensures passed { IsTrue result → Passes self.old self.new (channel_window position window) }
+        ensures rest { IsFalse result → self.new ≡ self.old }
+        ensures same { self.new.channels ≡ self.old.channels }
+        ensures limits { self.new.limits ≡ self.old.limits }
+    {
+        self.is_idle && self.latest.put_calm(position, window.value)
+    }
+
+    // Feeds the next window to each detector.
+    fn ask_all(&mut self, position: u32, window: Window) -> [Option<Event>; 3]
         requires { position < self.old.channels }
         ensures value { Ends self.old (channel_window position window) result }
         ensures seen { SeesMore self.old self.new (channel_window position window) }
@@ -67,6 +96,7 @@ impl Poly {
             position,
             window,
         );
+        self.is_idle = are_idle(latest, &self.dips, &self.swells, &self.interruptions);
         [dip, swell, interruption]
     }
 
@@ -79,6 +109,7 @@ impl Poly {
         ensures limits { self.new.limits ≡ self.old.limits }
     {
         self.latest.clear();
+        self.is_idle = false;
         [
             self.dips.finish(n),
             self.swells.finish(n),
@@ -97,6 +128,22 @@ impl Poly {
             Kind::Interruption => self.interruptions.running(),
         }
     }
+}
+
+// Whether this is so of each kind: no event runs, and none would begin.
+fn are_idle(latest: &Latest, dips: &Detector, swells: &Detector, interruptions: &Detector) -> bool
+    ensures { IsTrue result → AreIdle latest.now dips.now swells.now interruptions.now }
+{
+    is_idle(dips, Kind::Dip, latest)
+        && is_idle(swells, Kind::Swell, latest)
+        && is_idle(interruptions, Kind::Interruption, latest)
+}
+
+// Whether no event of a kind runs, and none would begin.
+fn is_idle(detector: &Detector, kind: Kind, latest: &Latest) -> bool
+    ensures { IsTrue result → IsIdle kind latest.now detector.now }
+{
+    detector.running().is_none() && !latest.begins(kind)
 }
 
 // Feeds the detector of a kind one window, after which these are the latest values.

@@ -5,17 +5,9 @@ use Rattle.event_detect.specs.Threshold.{class_of}
 use Rattle.polyphase.specs.declared.counts.Counts.{Counts}
 use Rattle.polyphase.specs.declared.latest.Latest.TheInside.{Inside}
 use Rattle.polyphase.specs.Latest.{LatestView, AreAtMost, IsAmong, IsCounted, with_class, with_value}
-use Rattle.polyphase.proofs.LatestLaws.{values_view, among, counted_in_place, counted_at_first, set_view}
+use Rattle.polyphase.proofs.LatestLaws.{below, values_view, among, counted_in_place, counted_at_first, set_view}
 use Rattle.polyphase.proofs.latest.Latest.put.Goals as goal
 use Rattle.polyphase.proofs.latest.Latest.put.Goals.{in-Some, in_default}
-
--- the position is below the number of channels
-below : (position : ℕ) (limits : _) (channels : ℕ) (values : List (Option ℕ)) (latest : LatestView)
-    → values_view limits channels values ≡ latest → position < length latest.values → position < channels
-below position limits channels values latest is less =
-    let taken : position < length (take channels values) =
-    subst (λ (l : LatestView). position < length l.values) (sym is) less in
-    omega (arith, taken, length-take channels values)
 
 pub without-self-inside-requires : goal.without-self-inside-requires
 without-self-inside-requires c =

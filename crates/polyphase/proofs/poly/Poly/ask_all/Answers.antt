@@ -8,7 +8,7 @@ use Rattle.event_detect.specs.Detector.{Watch, Ends as EndsOfKind, SeesMore as S
 use Rattle.polyphase.specs.Latest.{LatestView, with_value}
 use Rattle.polyphase.specs.Poly.{Ends, SeesMore, PolyView, channel_window, condition_of, poly_view, watch_of}
 use Rattle.polyphase.proofs.PolyLaws.{watch, all_end, all_see}
-use Rattle.polyphase.proofs.poly.Poly.step.Goals as goal
+use Rattle.polyphase.proofs.poly.Poly.ask_all.Goals as goal
 
 ends : (d : Watch) (kind : Kind) (before now : LatestView) (position : ℕ) (window : Window)
     (answer : Option Event)
