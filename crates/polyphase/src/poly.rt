@@ -2,7 +2,8 @@
 ghost use Rattle.std.specs.Prelude.{◌≡◌, ◌<◌, [], option_map, IsTrue, IsFalse};
 ghost use Rattle.event_detect.specs.Detector.{Ends as EndsOfKind, SeesMore as SeesMoreOfKind};
 ghost use Rattle.event_detect.specs.Threshold.{IsInOrder};
-ghost use Rattle.polyphase.specs.Poly.{AreIdle, Ends, HasSeen, IsIdle, LeavesOpen, Passes, SeesMore, StartsOpen, channel_window, condition_of, running_of};
+ghost use Rattle.polyphase.specs.Poly.{AreIdle, Ends, HasSeen, IsIdle, LeavesOpen, Passes, SeesMore};
+ghost use Rattle.polyphase.specs.Poly.{StartsOpen, channel_window, condition_of, running_of};
 ghost use Rattle.polyphase.specs.PolyphaseEvent.{IsChannelCount};
 
 use crate::latest::Latest;
