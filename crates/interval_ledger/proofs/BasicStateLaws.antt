@@ -13,13 +13,14 @@ use Rattle.interval_ledger.specs.declared.next_due.Due.TheVariants as due
 use Rattle.interval_ledger.specs.Channel.{ChannelView}
 use Rattle.interval_ledger.specs.Known.{AddsBasic, IsKnown, KeepsName, KnownView}
 use Rattle.interval_ledger.specs.Merged.{all_basics}
-use Rattle.interval_ledger.specs.Merging.{HasPosted, IsMerging, IsNext, NoneBefore, due_left, latest_start, merged_by, start_after}
+use Rattle.interval_ledger.specs.Merging.{HasPosted, IsMerging, IsNext, NoneBefore, due_left, latest_start, merged_by, merged_items, start_after}
 use Rattle.interval_ledger.specs.Posted.{all_roots, merged_of, root_at}
 use Rattle.interval_ledger.specs.Segment.{SegmentsView, is_first_of_segment}
 use Rattle.interval_ledger.specs.Watch.{TellsTouch}
 use Rattle.interval_ledger.proofs.FedLaws.{may_feed}
 use Rattle.interval_ledger.proofs.FeedLaws.{basics_fed}
 use Rattle.interval_ledger.proofs.FlagLaws.{latest_of}
+use Rattle.interval_ledger.proofs.HeadCountLaws.{heads_basic, more_basic}
 use Rattle.interval_ledger.proofs.HeadLaws.{basic_posted}
 use Rattle.interval_ledger.proofs.MergingLaws.{basic_told}
 use Rattle.interval_ledger.proofs.PostedLaws.{all_posted}
@@ -182,6 +183,12 @@ module _ (old : Merging) (posted : HasPosted old) (at : IsMerging old) (first : 
         let inside = basic_inside found.0 found.1 in
         omega (arith, more, long, inside)
 
+    -- one of each sampler more is merged
+    pub basic_counts : merged_items old + 1 ≤ merged_items fed_on
+    basic_counts =
+        let each = more_basic old.channels.items old.basics_merged old.readings_merged count more in
+        omega (arith, each, first_there)
+
     pub basic_merges : (b : Basic) → b ≡ due_basic → AddsBasic old.known known b →
         segments ≡ record old.segments { before = Some first.start } → IsMerging fed_on
     basic_merges b is adds passed =
@@ -208,4 +215,6 @@ module _ (old : Merging) (posted : HasPosted old) (at : IsMerging old) (first : 
           left = left_kept old known name at.windows (merged_of old.channels.items) at.left;
           places = ap (λ (s : SegmentsView). s.places) passed ∙ places_kept old known name at.places;
           before = start_kept old known name count segments.before last;
+          heads = heads_basic old.channels.items old.readings.items old.basics_merged old.readings_merged
+              count more next.is_due.next.0.each at.heads;
         }

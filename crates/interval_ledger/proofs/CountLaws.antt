@@ -1,5 +1,6 @@
 -- How many items of each lane are posted, and which queue an item of a lane belongs to.
-use Rattle.std.proofs.Common.{◌≡◌, ◌≢◌, ◌⊎◌, ℕ, zero, suc, ◌+◌, ◌*◌, ◌/◌, ◌%◌, ◌<◌, ◌==◌, Bool, true, false, cond, nat_lt, List, [], ◌∷◌, length, Option, None, Some, option_map, slice_get, slice_index, slice_set, refl, sym, ◌∙◌, ap, subst, inl, inr, arith}
+use Rattle.std.proofs.Common.{◌≡◌, ◌≢◌, ◌⊎◌, ℕ, zero, suc, ◌+◌, ◌*◌, ◌/◌, ◌%◌, ◌<◌, ◌≤◌, ◌==◌, Bool, true, false, cond, nat_lt, List, [], ◌∷◌, length, Option, None, Some, option_map, slice_get, slice_index, slice_set, refl, sym, ◌∙◌, ap, subst, inl, inr, arith}
+use Rattle.std.proofs.lemmas.Bool.{cases_lt}
 use Rattle.std.proofs.lemmas.Bool.Decides.{nat_tests}
 use Rattle.event_detect.specs.declared.window.Window.{Window}
 use Rattle.freq10s.specs.declared.reading.Reading.{Reading}
@@ -32,6 +33,30 @@ set_got {X} (x ∷ xs) (suc p) y (suc k) z is = shifted (set_got xs p y k z is)
         ((suc k ≡ suc p) × (y ≡ z)) ⊎ (slice_get xs k ≡ Some z)
     shifted (inl h) = inl (ap suc h.0, h.1)
     shifted (inr h) = inr h
+
+-- ---- lanes by number
+
+-- a number is twice another or one more
+half : (n : ℕ) → (p : ℕ) × ((n ≡ 2 * p) ⊎ (n ≡ 2 * p + 1))
+half zero = (0, inl refl)
+half (suc n) = next (half n).0 (half n).1
+  where
+    next : (p : ℕ) → (n ≡ 2 * p) ⊎ (n ≡ 2 * p + 1) → (p : ℕ) × ((suc n ≡ 2 * p) ⊎ (suc n ≡ 2 * p + 1))
+    next p (inl e) = (p, inr (omega (arith, e)))
+    next p (inr e) = (p + 1, inl (omega (arith, e)))
+
+-- what holds of each sampler's lane, each detector's and the last holds of each lane
+pub each_lane : (n : ℕ) (P : ℕ → Type 0) → ((p : ℕ) → p < n → P (2 * p)) → ((p : ℕ) → p < n → P (2 * p + 1)) →
+    P (2 * n) → (lane : ℕ) → lane < 2 * n + 1 → P lane
+each_lane n P even odd last lane inside = at (half lane).0 (half lane).1
+  where
+    below : (p : ℕ) → lane ≡ 2 * p → (p < n) ⊎ (n ≤ p) → P lane
+    below p e (inl less) = subst P (sym e) (even p less)
+    below p e (inr past) = let is : 2 * n ≡ lane = omega (arith, e, past, inside) in subst P is last
+
+    at : (p : ℕ) → (lane ≡ 2 * p) ⊎ (lane ≡ 2 * p + 1) → P lane
+    at p (inl e) = below p e (cases_lt p n)
+    at p (inr e) = subst P (sym e) (odd p (omega (arith, e, inside)))
 
 -- ---- counts
 

@@ -16,16 +16,18 @@ use Rattle.interval_ledger.specs.IsLedger.{IsLedger, settlement_of}
 use Rattle.interval_ledger.specs.Known.{IsKnown, IsOpened, KnownView}
 use Rattle.interval_ledger.specs.Left.{IsLeft}
 use Rattle.interval_ledger.specs.Merged.{IsAtMark}
-use Rattle.interval_ledger.specs.Merging.{HasEnded, HasPosted, IsMerging}
+use Rattle.interval_ledger.specs.Merging.{HasEnded, HasHeads, HasPosted, IsMerging, merged_items}
 use Rattle.interval_ledger.specs.Opening.{empty_channels, value_room, window_room}
 use Rattle.interval_ledger.specs.Posted.{AreFirst, IsPostedOf, merged_of}
 use Rattle.interval_ledger.specs.Queue.{Queued, empty_queue}
 use Rattle.interval_ledger.specs.Segment.{SegmentsView}
-use Rattle.interval_ledger.specs.Settlement.{nothing_posted}
+use Rattle.interval_ledger.specs.Settlement.{needed_items, nothing_posted}
 use Rattle.interval_ledger.proofs.CountLaws.{some_is}
+use Rattle.interval_ledger.proofs.HeadCountLaws.{all_needed, heads_none}
 use Rattle.interval_ledger.proofs.LedgerLaws.{left_same, ledger_of}
 use Rattle.interval_ledger.proofs.OpenLaws.{left_at_first, opened, opened_at_end}
-use Rattle.lanes.specs.Lane.{recorded_readings, recorded_runs, sampler_items, value_of, windows_at}
+use Rattle.lanes.specs.Lane.{need, recorded_readings, recorded_runs, sampler_items, value_of, windows_at}
+use Rattle.lanes.proofs.NeedLaws.{need_within}
 use Rattle.pq_base.specs.Recorded.{Recorded, IsRecording, sample_count}
 use Rattle.pq_sequence.specs.MeasuredRecording.{basics_of, channel_count, clock_of, recorded_places, reference_cycles, tick_places}
 use Rattle.pq_time.specs.Tick.{tick_place, ticks}
@@ -158,13 +160,16 @@ module _ (samples : ℕ) (channels : Vec ChannelView Global) (readings : Queued 
             let values : length (sampler_items r p) ≡ length (recorded_runs r) =
             length-map (recorded_runs r) (value_of r p) in omega (arith, few, basics, values)
 
+    -- nothing is merged
+    none_merged : (c : ℕ) → merged_of channels.items c ≡ 0
+    none_merged c =
+        ap (λ cs. merged_of cs c) fresh.channels_are
+        ∙ merged_none (channel_count r) (value_room r ticks_in) (window_room r) c
+
     -- nothing is left out, of the windows too
     is_left : IsLeft r 0 (merged_of channels.items)
     is_left =
-        left_same r 0 (λ c. 0) (merged_of channels.items)
-        (λ c. ap (λ cs. merged_of cs c) fresh.channels_are
-        ∙ merged_none (channel_count r) (value_room r ticks_in) (window_room r) c)
-        (left_at_first r fresh.given)
+        left_same r 0 (λ c. 0) (merged_of channels.items) none_merged (left_at_first r fresh.given)
 
     -- where there are samples
     is_known : 0 < sample_count r → IsKnown k nothing 0 0
@@ -178,6 +183,24 @@ module _ (samples : ℕ) (channels : Vec ChannelView Global) (readings : Queued 
       grouping = fresh.known.grouping;
     }
 
+    -- nothing is merged, and the start of the recording needs nothing
+    merged_is : merged_items s ≡ 0
+    merged_is = heads_none channels.items none_merged
+
+    heads : HasHeads s
+    heads = record {
+      samplers = λ p c at. omega arith;
+      detectors = λ p c at. each_empty (λ c. c.merged ≤ length c.windows.items) (omega arith) p c at;
+      frequency = omega arith;
+    }
+
+    needed : needed_items r 0 ≤ merged_items s
+    needed =
+        let none : (lane : ℕ) → need r lane 0 ≤ 0 =
+        λ lane. need_within 0 r lane 0 fresh.given (omega arith) in
+        all_needed r 0 channels.items 0 0 long (λ p inside. none (2 * p))
+        (λ p inside. let few = none (2 * p + 1) in omega (arith, few)) (none (2 * channel_count r))
+
     at : (0 < sample_count r) ⊎ (sample_count r ≤ 0) → IsMerging s ⊎ HasEnded s
     at (inl some) =
         inl (record {
@@ -188,12 +211,15 @@ module _ (samples : ℕ) (channels : Vec ChannelView Global) (readings : Queued 
           left = is_left;
           places = fresh.places;
           before = fresh.before;
+          heads = heads;
         })
     at (inr none) =
         let same = fresh.samples_are in
         inr (record {
           at_end = omega (arith, none, same);
           is_cut = fresh.known.none_released ∙ opened_at_end r k.limits fresh.given (omega (arith, none));
+          heads = heads;
+          needed = needed;
         })
 
     is_ledger : IsLedger s
@@ -203,7 +229,15 @@ module _ (samples : ℕ) (channels : Vec ChannelView Global) (readings : Queued 
 
     is_nothing : settlement_of s ≡ nothing_posted r k.limits
     is_nothing =
-        ap (λ ns. record { recording = r; limits = k.limits; counts = ns; mark = 0 })
+        ap (λ n. record {
+          recording = r;
+          limits = k.limits;
+          counts = counts_of channels.items readings.items;
+          mark = 0;
+          merged = n;
+        })
+        merged_is
+        ∙ ap (λ ns. record { recording = r; limits = k.limits; counts = ns; mark = 0; merged = 0 })
         (ap (λ cs. counts_of cs readings.items) fresh.channels_are
         ∙ ap (λ (q : Queued Reading). counts_of (empty_channels r ticks_in) q.items) fresh.readings_are
         ∙ counts_none (channel_count r) (value_room r ticks_in) (window_room r))

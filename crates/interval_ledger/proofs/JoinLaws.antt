@@ -1,13 +1,16 @@
 -- Steps of merging, one after another.
-use Rattle.std.proofs.Common.{◌≡◌, ℕ, ◌<◌, List, [], ◌∷◌, length, map, None, slice_get, Result, Ok, Err, OnOk, refl, ◌∙◌, ap, arith}
+use Rattle.std.proofs.Common.{◌≡◌, ℕ, ◌<◌, List, [], ◌∷◌, length, map, None, slice_get, Result, Ok, Err, OnOk, refl, sym, ◌∙◌, ap, arith}
 use Rattle.std.specs.Option.{option_map_or}
+use Rattle.event_detect.specs.declared.limits.Limits.{Limits}
 use Rattle.interval_ledger.specs.declared.channel.SpanValue.{SpanValue}
 use Rattle.interval_ledger.specs.declared.merging.Merging.{Merging}
 use Rattle.interval_ledger.specs.Channel.{ChannelView}
-use Rattle.interval_ledger.specs.Merging.{HasMerged, IsDue, KeepsMark, MergesWindows, NoneBefore, due_left}
+use Rattle.interval_ledger.specs.Merging.{DoesItems, HasMerged, HoldsCut, IsDue, IsMerging, KeepsMark, MergesItems, MergesWindows, NoneBefore, due_left}
 use Rattle.interval_ledger.specs.Queue.{Queued}
 use Rattle.interval_ledger.proofs.KeptLaws.{values_of}
-use Rattle.interval_ledger.proofs.StateLaws.{due_stays, kept_none, kept_twice}
+use Rattle.interval_ledger.proofs.StateLaws.{due_stays, kept_none, kept_twice, released_cut}
+use Rattle.pq_base.specs.Recorded.{Recorded}
+use Rattle.pq_sequence.specs.SequentialResult.{cut, sequential}
 
 -- ---- what stays
 
@@ -65,3 +68,43 @@ merged_all old new w (Ok x) is merges none = record {
   none = none;
 }
 merged_all old new w (Err e) is merges none = none
+
+-- ---- steps
+
+pub items_none : (s : Merging) (steps : ℕ) → MergesItems steps steps s s
+items_none s steps = record { rises = omega arith; ticks = omega arith }
+
+pub items_twice : (a b c : Merging) (before mid after : ℕ) → MergesItems before mid a b →
+    MergesItems mid after b c → MergesItems before after a c
+items_twice a b c before mid after first second =
+    let r = first.rises in
+    let s = second.rises in
+    let t = first.ticks in
+    let u = second.ticks in record { rises = omega (arith, r, s); ticks = omega (arith, t, u) }
+
+-- what is released stays with the mark
+released_same : (a b : Merging) → HoldsCut a → IsMerging b → KeepsMark a b →
+    length b.known.outbox.released ≡ length a.known.outbox.released
+released_same a b holds at keeps =
+    ap length
+    (at.known.at.is_cut
+    ∙ ap (λ m. cut m (sequential b.known.recording b.known.limits)) keeps.mark_same
+    ∙ ap (λ (r : Recorded). cut a.mark (sequential r b.known.limits)) keeps.posted.recording_same
+    ∙ ap (λ (l : Limits). cut a.mark (sequential a.known.recording l)) keeps.posted.limits_same
+    ∙ sym (released_cut a holds))
+
+pub does_merged : (a b : Merging) (before after : ℕ) → HoldsCut a → IsMerging b → KeepsMark a b →
+    MergesItems before after a b → DoesItems 0 before after a b
+does_merged a b before after holds at keeps merges =
+    let same = released_same a b holds at keeps in
+    let r = merges.rises in
+    let t = merges.ticks in record { rises = omega (arith, r); ticks = omega (arith, same, t) }
+
+pub does_after : (a b c : Merging) (before mid after : ℕ) → HoldsCut a → IsMerging b → KeepsMark a b →
+    MergesItems before mid a b → DoesItems 0 mid after b c → DoesItems 0 before after a c
+does_after a b c before mid after holds at keeps merges does =
+    let first = does_merged a b before mid holds at keeps merges in
+    let r = first.rises in
+    let s = does.rises in
+    let t = first.ticks in
+    let u = does.ticks in record { rises = omega (arith, r, s); ticks = omega (arith, t, u) }

@@ -1,8 +1,7 @@
 -- A ledger goes on being one after a post and after an advance.
-use Rattle.std.proofs.Common.{◌≡◌, ◌⊎◌, ℕ, zero, suc, ◌+◌, ◌*◌, ◌/◌, ◌<◌, ◌≤◌, max, List, [], ◌∷◌, ◌++◌, length, map, drop, Some, slice_get, slice_index, slice_set, Result, Ok, Err, OnOk, OnErr, refl, sym, ◌∙◌, ap, subst, inl, inr, arith}
+use Rattle.std.proofs.Common.{◌≡◌, ◌⊎◌, ℕ, zero, suc, ◌+◌, ◌*◌, ◌/◌, ◌<◌, ◌≤◌, max, List, [], ◌∷◌, ◌++◌, length, map, drop, Some, slice_get, slice_index, slice_set, sum, Result, Ok, Err, OnOk, OnErr, refl, sym, ◌∙◌, ap, subst, inl, inr, arith}
 use Rattle.std.specs.declared.alloc.Global.{Global}
 use Rattle.std.specs.declared.vec.Vec.{Vec}
-use Rattle.std.proofs.lemmas.Bool.{cases_lt}
 use Rattle.std.proofs.lemmas.List.{length-append, length-map, length-take}
 use Rattle.std.proofs.lemmas.Option.{slice_get_within}
 use Rattle.event_detect.specs.declared.limits.Limits.{Limits}
@@ -13,14 +12,17 @@ use Rattle.interval_ledger.specs.declared.channel.SpanValue.{SpanValue}
 use Rattle.interval_ledger.specs.declared.merging.Merging.{Merging}
 use Rattle.interval_ledger.specs.Channel.{ChannelView, with_value, with_window}
 use Rattle.interval_ledger.specs.Count.{HasPlace, HasRoom, PutsItem, counts_of}
+use Rattle.interval_ledger.specs.Heads.{HeadsArePosted, heads_of}
 use Rattle.interval_ledger.specs.IsLedger.{IsLedger, settlement_of}
 use Rattle.interval_ledger.specs.Left.{IsLeft}
-use Rattle.interval_ledger.specs.Merging.{HasEnded, HoldsCut, IsMerging, KeepsPosted}
+use Rattle.interval_ledger.specs.Merging.{DoesItems, HasEnded, HasHeads, HoldsCut, IsMerging, KeepsPosted, merged_items}
 use Rattle.interval_ledger.specs.Posted.{AreFirst, ArePosted, AreWithinReach, IsPostedOf, merged_of, value_item}
 use Rattle.interval_ledger.specs.Queue.{Queued, with_item}
-use Rattle.interval_ledger.specs.Settlement.{SettlementView, with_mark}
-use Rattle.interval_ledger.proofs.CountLaws.{by_item, counts-length, detector_count, detector_more, frequency_count, frequency_more, sampler_count, sampler_more, set_got, some_is}
+use Rattle.interval_ledger.specs.Settlement.{Advances, IsMergedWithin, SettlementView, advanced_to, needed_items}
+use Rattle.interval_ledger.proofs.CountLaws.{by_item, counts-length, detector_count, detector_more, each_lane, frequency_count, frequency_more, sampler_count, sampler_more, set_got, some_is}
+use Rattle.interval_ledger.proofs.HeadCountLaws.{heads_stay, most_merged}
 use Rattle.interval_ledger.proofs.PostedLaws.{first_more}
+use Rattle.interval_ledger.proofs.StateLaws.{needed_by}
 use Rattle.lanes.specs.declared.lane_item.LaneItem.{LaneItem}
 use Rattle.lanes.specs.declared.lane_item.LaneItem.TheVariants as item
 use Rattle.lanes.specs.Lane.{IsWithinReaches, lane_count, lane_items, reach, recorded_readings, sampler_items, windows_at}
@@ -41,28 +43,6 @@ found_at (x ∷ xs) (suc k) inside = found_at xs k (omega (arith, inside))
 first_fits : {X : Type 0} (some all : List X) → AreFirst some all → length some ≤ length all
 first_fits some all first =
     let long = ap length first ∙ length-take (length some) all in omega (arith, long)
-
--- a number is twice another or one more
-half : (n : ℕ) → (p : ℕ) × ((n ≡ 2 * p) ⊎ (n ≡ 2 * p + 1))
-half zero = (0, inl refl)
-half (suc n) = next (half n).0 (half n).1
-  where
-    next : (p : ℕ) → (n ≡ 2 * p) ⊎ (n ≡ 2 * p + 1) → (p : ℕ) × ((suc n ≡ 2 * p) ⊎ (suc n ≡ 2 * p + 1))
-    next p (inl e) = (p, inr (omega (arith, e)))
-    next p (inr e) = (p + 1, inl (omega (arith, e)))
-
--- what holds of each sampler's lane, each detector's and the last holds of each lane
-each_lane : (n : ℕ) (P : ℕ → Type 0) → ((p : ℕ) → p < n → P (2 * p)) → ((p : ℕ) → p < n → P (2 * p + 1)) →
-    P (2 * n) → (lane : ℕ) → lane < 2 * n + 1 → P lane
-each_lane n P even odd last lane inside = at (half lane).0 (half lane).1
-  where
-    below : (p : ℕ) → lane ≡ 2 * p → (p < n) ⊎ (n ≤ p) → P lane
-    below p e (inl less) = subst P (sym e) (even p less)
-    below p e (inr past) = let is : 2 * n ≡ lane = omega (arith, e, past, inside) in subst P is last
-
-    at : (p : ℕ) → (lane ≡ 2 * p) ⊎ (lane ≡ 2 * p + 1) → P lane
-    at p (inl e) = below p e (cases_lt p n)
-    at p (inr e) = subst P (sym e) (odd p (omega (arith, e, inside)))
 
 -- ---- counts and reaches
 
@@ -136,6 +116,19 @@ pub cut_of : (s : Merging) → IsMerging s ⊎ HasEnded s →
 cut_of s (inl merging) = merging.known.at.is_cut
 cut_of s (inr ended) = ended.is_cut
 
+-- merged is what the mark needs, and no more than is posted
+pub merged_within : (s : Merging) → HoldsCut s → IsMergedWithin (settlement_of s)
+merged_within s holds = elim holds.at [
+  | inl at ↦ record {
+    needed = needed_by s holds.posted at s.mark at.known.at.settled;
+    posted = most_merged s.channels.items s.readings.items s.basics_merged s.readings_merged at.heads;
+  }
+  | inr at ↦ record {
+    needed = at.needed;
+    posted = most_merged s.channels.items s.readings.items s.basics_merged s.readings_merged at.heads;
+  }
+]
+
 pub ledger_of : (s : Merging) → HoldsCut s → HasRoom s.known.recording s.channels.items s.readings →
     IsInOrder s.known.limits →
     IsWithinReaches s.known.recording (counts_of s.channels.items s.readings.items) s.mark → IsLedger s
@@ -149,18 +142,19 @@ ledger_of s holds room ordered within =
         sized = sized_of s.known.recording s.channels.items s.readings.items posted;
         most = most_of s.known.recording s.channels.items s.readings.items posted;
         within = within;
+        merged = merged_within s holds;
       };
     }
 
 -- ---- post
 
 -- what a post keeps
-record IsFine (r : Recorded) (mark : ℕ) (next : ℕ → ℕ) (channels : List ChannelView)
-    (readings : Queued Reading) : Type 0 where
-  posted : ArePosted r channels readings.items
-  room : HasRoom r channels readings
-  within : AreWithinReach r channels readings.items mark
-  merged : (c : ℕ) → merged_of channels c ≡ next c
+record IsFine (s : Merging) (channels : List ChannelView) (readings : Queued Reading) : Type 0 where
+  posted : ArePosted s.known.recording channels readings.items
+  room : HasRoom s.known.recording channels readings
+  within : AreWithinReach s.known.recording channels readings.items s.mark
+  merged : (c : ℕ) → merged_of channels c ≡ merged_of s.channels.items c
+  heads : HeadsArePosted channels readings.items s.basics_merged s.readings_merged
 
 merged_kept : (channels : List ChannelView) (p : ℕ) (c new : ChannelView) (k : ℕ) →
     slice_get channels p ≡ Some c → new.merged ≡ c.merged →
@@ -178,8 +172,11 @@ set_length [] (suc p) y = refl
 set_length (x ∷ xs) zero y = refl
 set_length (x ∷ xs) (suc p) y = ap suc (set_length xs p y)
 
-module _ (r : Recorded) (given : IsRecording r) (mark : ℕ) (next : ℕ → ℕ) (channels : List ChannelView)
-    (readings : Queued Reading) (fine : IsFine r mark next channels readings) where
+module _ (s : Merging) (given : IsRecording s.known.recording) (channels : List ChannelView)
+    (readings : Queued Reading) (fine : IsFine s channels readings) where
+  abbrev about : Recorded
+  about = s.known.recording
+
   -- of each channel with one changed holds what holds of each and of the changed one
   of_each : (P : ℕ → ChannelView → Type 0) (p : ℕ) (new : ChannelView) → P p new →
       ((k : ℕ) (d : ChannelView) → slice_get channels k ≡ Some d → P k d) →
@@ -191,47 +188,55 @@ module _ (r : Recorded) (given : IsRecording r) (mark : ℕ) (next : ℕ → ℕ
       by (inr old) = others k d old
 
   fine_channel : (p : ℕ) (c new : ChannelView) → slice_get channels p ≡ Some c → new.merged ≡ c.merged →
-      IsPostedOf r p new → length (sampler_items r p) ≤ new.values.room →
-      length (windows_at r p) ≤ new.windows.room → length c.values.items ≤ length new.values.items →
+      IsPostedOf about p new → length (sampler_items about p) ≤ new.values.room →
+      length (windows_at about p) ≤ new.windows.room → length c.values.items ≤ length new.values.items →
       length c.windows.items ≤ length new.windows.items →
-      IsFine r mark next (slice_set channels p new) readings
+      IsFine s (slice_set channels p new) readings
   fine_channel p c new at same posted values windows more_values more_windows = record {
     posted = record {
       many = set_length channels p new ∙ fine.posted.many;
-      each = of_each (IsPostedOf r) p new posted fine.posted.each;
+      each = of_each (IsPostedOf about) p new posted fine.posted.each;
       frequency = fine.posted.frequency;
     };
     room = record {
-      values = of_each (λ p c. length (sampler_items r p) ≤ c.values.room) p new values fine.room.values;
-      windows = of_each (λ p c. length (windows_at r p) ≤ c.windows.room) p new windows fine.room.windows;
+      values = of_each (λ p c. length (sampler_items about p) ≤ c.values.room) p new values fine.room.values;
+      windows = of_each (λ p c. length (windows_at about p) ≤ c.windows.room) p new windows fine.room.windows;
       frequency = fine.room.frequency;
     };
     within = record {
-      samplers = of_each (λ p c. mark ≤ reach r (2 * p) (length c.values.items)) p new
+      samplers = of_each (λ p c. s.mark ≤ reach about (2 * p) (length c.values.items)) p new
           (let before = fine.within.samplers p c at in
-          let rises = reach_rises r given (2 * p) (length c.values.items) (length new.values.items)
+          let rises = reach_rises about given (2 * p) (length c.values.items) (length new.values.items)
           more_values in omega (arith, before, rises)) fine.within.samplers;
-      detectors = of_each (λ p c. mark ≤ reach r (2 * p + 1) (length c.windows.items)) p new
+      detectors = of_each (λ p c. s.mark ≤ reach about (2 * p + 1) (length c.windows.items)) p new
           (let before = fine.within.detectors p c at in
-          let rises = reach_rises r given (2 * p + 1) (length c.windows.items) (length new.windows.items)
+          let rises = reach_rises about given (2 * p + 1) (length c.windows.items) (length new.windows.items)
           more_windows in omega (arith, before, rises)) fine.within.detectors;
       frequency = fine.within.frequency;
     };
     merged = λ k. merged_kept channels p c new k at same ∙ fine.merged k;
+    heads = record {
+      samplers = of_each (λ p c. s.basics_merged ≤ length c.values.items) p new
+          (let before = fine.heads.samplers p c at in omega (arith, before, more_values)) fine.heads.samplers;
+      detectors = of_each (λ p c. c.merged ≤ length c.windows.items) p new
+          (let before = fine.heads.detectors p c at in omega (arith, before, more_windows, same))
+          fine.heads.detectors;
+      frequency = fine.heads.frequency;
+    };
   }
 
   fine_value : (p : ℕ) (c : ChannelView) (v : SpanValue) → slice_get channels p ≡ Some c →
-      slice_get (sampler_items r p) (length c.values.items) ≡ Some (value_item v) →
-      IsFine r mark next (slice_set channels p (with_value c v)) readings
+      slice_get (sampler_items about p) (length c.values.items) ≡ Some (value_item v) →
+      IsFine s (slice_set channels p (with_value c v)) readings
   fine_value p c v at is =
       let old = fine.posted.each p c at in
       let long = length-append c.values.items (v ∷ []) in
       let many = length-map c.values.items value_item in
       fine_channel p c (with_value c v) at refl
       (record {
-        values = subst (λ xs. AreFirst xs (sampler_items r p)) (sym (mapped c.values.items))
-            (first_more (map value_item c.values.items) (sampler_items r p) (value_item v) old.values
-            (ap (slice_get (sampler_items r p)) many ∙ is));
+        values = subst (λ xs. AreFirst xs (sampler_items about p)) (sym (mapped c.values.items))
+            (first_more (map value_item c.values.items) (sampler_items about p) (value_item v) old.values
+            (ap (slice_get (sampler_items about p)) many ∙ is));
         windows = old.windows;
       })
       (fine.room.values p c at) (fine.room.windows p c at) (omega (arith, long)) (omega arith)
@@ -241,26 +246,26 @@ module _ (r : Recorded) (given : IsRecording r) (mark : ℕ) (next : ℕ → ℕ
       mapped (u ∷ us) = ap (λ xs. value_item u ∷ xs) (mapped us)
 
   fine_window : (p : ℕ) (c : ChannelView) (w : Window) → slice_get channels p ≡ Some c →
-      slice_get (windows_at r p) (length c.windows.items) ≡ Some w →
-      IsFine r mark next (slice_set channels p (with_window c w)) readings
+      slice_get (windows_at about p) (length c.windows.items) ≡ Some w →
+      IsFine s (slice_set channels p (with_window c w)) readings
   fine_window p c w at is =
       let old = fine.posted.each p c at in
       let long = length-append c.windows.items (w ∷ []) in
       fine_channel p c (with_window c w) at refl
       (record {
         values = old.values;
-        windows = first_more c.windows.items (windows_at r p) w old.windows is;
+        windows = first_more c.windows.items (windows_at about p) w old.windows is;
       })
       (fine.room.values p c at) (fine.room.windows p c at) (omega arith) (omega (arith, long))
 
-  fine_reading : (x : Reading) → slice_get (recorded_readings r) (length readings.items) ≡ Some x →
-      IsFine r mark next channels (with_item readings x)
+  fine_reading : (x : Reading) → slice_get (recorded_readings about) (length readings.items) ≡ Some x →
+      IsFine s channels (with_item readings x)
   fine_reading x is =
       let long = length-append readings.items (x ∷ []) in record {
         posted = record {
           many = fine.posted.many;
           each = fine.posted.each;
-          frequency = first_more readings.items (recorded_readings r) x fine.posted.frequency is;
+          frequency = first_more readings.items (recorded_readings about) x fine.posted.frequency is;
         };
         room = record {
           values = fine.room.values;
@@ -271,10 +276,15 @@ module _ (r : Recorded) (given : IsRecording r) (mark : ℕ) (next : ℕ → ℕ
           samplers = fine.within.samplers;
           detectors = fine.within.detectors;
           frequency = let before = fine.within.frequency in
-              let rises = reach_rises r given (2 * channel_count r) (length readings.items)
+              let rises = reach_rises about given (2 * channel_count about) (length readings.items)
               (length (readings.items ++ x ∷ [])) (omega (arith, long)) in omega (arith, before, rises);
         };
         merged = fine.merged;
+        heads = record {
+          samplers = fine.heads.samplers;
+          detectors = fine.heads.detectors;
+          frequency = let before = fine.heads.frequency in omega (arith, before, long);
+        };
       }
 
 pub left_same : (r : Recorded) (m : ℕ) (f g : ℕ → ℕ) → ((c : ℕ) → g c ≡ f c) → IsLeft r m f → IsLeft r m g
@@ -293,6 +303,7 @@ IsAfterPost s t lane = IsLedger t
     × (counts_of t.channels.items t.readings.items
     ≡ slice_set (counts_of s.channels.items s.readings.items) lane
     (slice_index (counts_of s.channels.items s.readings.items) lane + 1))
+    × (merged_items t ≡ merged_items s)
 
 module _ (s : Merging) (ledger : IsLedger s) (lane : ℕ) (i : LaneItem)
     (is : slice_get (lane_items s.known.recording lane)
@@ -315,12 +326,17 @@ module _ (s : Merging) (ledger : IsLedger s) (lane : ℕ) (i : LaneItem)
   posted : ArePosted r channels readings.items
   posted = ledger.merging.posted.posted
 
-  fine : IsFine r s.mark (merged_of channels) channels readings
+  heads : IsMerging s ⊎ HasEnded s → HasHeads s
+  heads (inl m) = m.heads
+  heads (inr e) = e.heads
+
+  fine : IsFine s channels readings
   fine = record {
     posted = posted;
     room = ledger.room;
     within = reaches_back r channels readings.items posted s.mark ledger.posted.within;
     merged = λ c. refl;
+    heads = heads ledger.merging.at;
   }
 
   -- the queue of the item has room for it
@@ -348,7 +364,15 @@ module _ (s : Merging) (ledger : IsLedger s) (lane : ℕ) (i : LaneItem)
     abbrev t : Merging
     t = record s { channels = v; readings = q }
 
-    ledger_after : IsFine r s.mark (merged_of channels) v.items q → IsLedger t
+    -- and nothing is merged by it
+    merged_stays : IsFine s v.items q →
+        heads_of v.items s.basics_merged s.readings_merged
+        ≡ heads_of channels s.basics_merged s.readings_merged
+    merged_stays now =
+        heads_stay v.items channels s.basics_merged s.readings_merged (now.posted.many ∙ sym posted.many)
+        now.merged
+
+    ledger_after : IsFine s v.items q → IsLedger t
     ledger_after now =
         ledger_of t (record {
           posted = record {
@@ -368,18 +392,26 @@ module _ (s : Merging) (ledger : IsLedger s) (lane : ℕ) (i : LaneItem)
           left = left_same r m.windows (merged_of channels) (merged_of v.items) now.merged m.left;
           places = m.places;
           before = m.before;
+          heads = now.heads;
         })
-        at (inr e) = inr (record { at_end = e.at_end; is_cut = e.is_cut })
+        at (inr e) = inr (record {
+          at_end = e.at_end;
+          is_cut = e.is_cut;
+          heads = now.heads;
+          needed = subst (λ ns. needed_items r s.mark ≤ sum ns) (sym (merged_stays now)) e.needed;
+        })
 
     after_channel : (new : List ChannelView) → v.items ≡ new → q ≡ readings →
-        IsFine r s.mark (merged_of channels) new readings →
+        IsFine s new readings →
         counts_of new readings.items ≡ slice_set (counts_of channels readings.items) lane (count + 1) →
         IsAfterPost s t lane
-    after_channel new e same now more = (
-      ledger_after (subst (λ cs. IsFine r s.mark (merged_of channels) cs q) (sym e)
-          (subst (λ q. IsFine r s.mark (merged_of channels) new q) (sym same) now)),
-      ap (λ cs. counts_of cs q.items) e ∙ ap (λ q. counts_of new q.items) same ∙ more,
-    )
+    after_channel new e same now more =
+        let fine_now : IsFine s v.items q =
+        subst (λ cs. IsFine s cs q) (sym e) (subst (λ q. IsFine s new q) (sym same) now) in (
+          ledger_after fine_now,
+          ap (λ cs. counts_of cs q.items) e ∙ ap (λ q. counts_of new q.items) same ∙ more,
+          ap sum (merged_stays fine_now),
+        )
 
     -- the item is posted
     pub after_post : PutsItem lane i channels readings v.items q → IsAfterPost s t lane
@@ -394,7 +426,7 @@ module _ (s : Merging) (ledger : IsLedger s) (lane : ℕ) (i : LaneItem)
         let long = length-append c.values.items (x ∷ []) in
         let more : length (c.values.items ++ x ∷ []) ≡ count + 1 = omega (arith, long, many) in
         after_channel (slice_set channels p (with_value c x)) (puts.0 c found.1) puts.1
-        (fine_value r given s.mark (merged_of channels) channels readings fine p c x found.1
+        (fine_value s given channels readings fine p c x found.1
         (ap (slice_get (sampler_items r p)) (sym many) ∙ got))
         (sampler_more channels readings.items lane p c (with_value c x) (count + 1) twice found.1 more refl))
         (λ once inside w got puts.
@@ -405,21 +437,24 @@ module _ (s : Merging) (ledger : IsLedger s) (lane : ℕ) (i : LaneItem)
         let long = length-append c.windows.items (w ∷ []) in
         let more : length (c.windows.items ++ w ∷ []) ≡ count + 1 = omega (arith, long, many) in
         after_channel (slice_set channels p (with_window c w)) (puts.0 c found.1) puts.1
-        (fine_window r given s.mark (merged_of channels) channels readings fine p c w found.1
+        (fine_window s given channels readings fine p c w found.1
         (ap (slice_get (windows_at r p)) (sym many) ∙ got))
         (detector_more channels readings.items lane p c (with_window c w) (count + 1) once found.1 more refl))
         (λ last x got puts.
         let end : lane ≡ 2 * length channels = omega (arith, last, posted.many) in
         let many = frequency_count channels readings.items lane end in
         let long = length-append readings.items (x ∷ []) in
-        let more : length (readings.items ++ x ∷ []) ≡ count + 1 = omega (arith, long, many) in (
-          ledger_after (subst (λ cs. IsFine r s.mark (merged_of channels) cs q) (sym puts.0)
-              (subst (λ q. IsFine r s.mark (merged_of channels) channels q) (sym puts.1)
-              (fine_reading r given s.mark (merged_of channels) channels readings fine x
-              (ap (slice_get (recorded_readings r)) (sym many) ∙ got)))),
+        let more : length (readings.items ++ x ∷ []) ≡ count + 1 = omega (arith, long, many) in
+        let fine_now : IsFine s v.items q =
+        subst (λ cs. IsFine s cs q) (sym puts.0)
+        (subst (λ q. IsFine s channels q) (sym puts.1)
+        (fine_reading s given channels readings fine x
+        (ap (slice_get (recorded_readings r)) (sym many) ∙ got))) in (
+          ledger_after fine_now,
           ap (λ cs. counts_of cs q.items) puts.0 ∙ ap (λ q. counts_of channels q.items) puts.1
               ∙ frequency_more channels readings.items (readings.items ++ x ∷ []) lane end
               ∙ ap (slice_set (counts_of channels readings.items) lane) more,
+          ap sum (merged_stays fine_now),
         ))
         i is
 
@@ -506,12 +541,27 @@ module _ (s t : Merging) (ledger : IsLedger s) (keeps : KeepsPosted s t) where
   ledger_advances w (Err e) holds moved stays within = ledger_stays holds stays
 
   abbrev seen : Recorded → Limits → List ℕ → ℕ → SettlementView
-  seen r limits counts mark = record { recording = r; limits = limits; counts = counts; mark = mark }
+  seen r limits counts mark = record {
+    recording = r;
+    limits = limits;
+    counts = counts;
+    mark = mark;
+    merged = merged_items t;
+  }
 
-  -- all that is seen stays, but for the mark
-  pub seen_kept : settlement_of t ≡ with_mark (settlement_of s) t.mark
+  -- all that is seen stays, but for the mark and how many items are merged
+  pub seen_kept : settlement_of t ≡ advanced_to (settlement_of s) t.mark (merged_items t)
   seen_kept =
       let counts = counts_of t.channels.items t.readings.items in
       ap (λ r. seen r t.known.limits counts t.mark) keeps.recording_same
       ∙ ap (λ l. seen s.known.recording l counts t.mark) keeps.limits_same
       ∙ ap (λ ns. seen s.known.recording s.known.limits ns t.mark) counts_kept
+
+-- a step at most for each item that is merged or released, and one more
+pub advances_seen : (s t : Merging) (before after : ℕ) → HoldsCut s → HoldsCut t →
+    DoesItems 1 before after s t → Advances before after (settlement_of s) (settlement_of t)
+advances_seen s t before after old new does =
+    let was = ap length (cut_of s old.at) in
+    let is = ap length (cut_of t new.at) in
+    let r = does.rises in
+    let ticks = does.ticks in record { rises = omega (arith, r); ticks = omega (arith, was, is, ticks) }

@@ -24,10 +24,12 @@ pub mod PostedLaws
 pub mod MergingLaws
 pub mod ReadingLaws
 pub mod CountLaws
+pub mod HeadCountLaws
 pub mod KeptLaws
 pub mod StateLaws
 pub mod JoinLaws
 pub mod BasicStateLaws
 pub mod LedgerLaws
 pub mod FreshLaws
+pub mod TickLaws
 pub mod GivenLaws

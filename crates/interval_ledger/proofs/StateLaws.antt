@@ -1,5 +1,5 @@
 -- The state of merging: what a step leaves as it is, and what holds after it.
-use Rattle.std.proofs.Common.{◌≡◌, ℕ, zero, suc, ◌+◌, ◌-◌, ◌*◌, ◌^◌, ◌<◌, ◌≤◌, max, List, [], ◌∷◌, length, map, take, drop, Option, None, Some, option_and_then, slice_get, slice_index, sum_by, get_or, refl, sym, ◌∙◌, ap, subst, inl, inr, arith}
+use Rattle.std.proofs.Common.{◌≡◌, ℕ, zero, suc, ◌+◌, ◌-◌, ◌*◌, ◌^◌, ◌<◌, ◌≤◌, max, List, [], ◌∷◌, length, map, take, drop, Option, None, Some, option_and_then, slice_get, slice_index, sum, sum_by, get_or, refl, sym, ◌∙◌, ap, subst, inl, inr, arith}
 use Rattle.std.specs.Option.{option_map_or}
 use Rattle.std.specs.List.{AllByRecursion}
 use Rattle.std.specs.declared.alloc.Global.{Global}
@@ -16,17 +16,21 @@ use Rattle.interval_ledger.specs.declared.next_due.Due.{Due}
 use Rattle.interval_ledger.specs.declared.next_due.Due.TheVariants as due
 use Rattle.interval_ledger.specs.Channel.{ChannelView, first_start, first_starts, with_merged}
 use Rattle.interval_ledger.specs.Earliest.{IsFirstLeast}
+use Rattle.interval_ledger.specs.Heads.{HeadsArePosted, heads_of}
 use Rattle.interval_ledger.specs.Known.{AddsReading, AddsWindow, Ends, IsKnown, IsNextWindow, KeepsKnown, KeepsName, KnownView, MovesMark}
 use Rattle.interval_ledger.specs.Left.{IsLeft}
 use Rattle.interval_ledger.specs.Merged.{IsSettled, Merged, all_basics}
-use Rattle.interval_ledger.specs.Merging.{HasMerged, HasPosted, HoldsCut, IsDue, IsMerging, IsNext, IsWithinReach, KeepsPosted, MayMergeUntil, MergesWindows, NoneBefore, TakesWindow, count_left, due_left, first_left, latest_start, left_of, merged_by}
+use Rattle.interval_ledger.specs.Merging.{HasMerged, HasPosted, HoldsCut, IsDue, IsMerging, IsNext, IsWithinReach, KeepsPosted, MayMergeUntil, MergesWindows, NoneBefore, TakesWindow, count_left, due_left, first_left, latest_start, left_of, merged_by, merged_items}
 use Rattle.interval_ledger.specs.NextDue.{IsNextDue}
 use Rattle.interval_ledger.specs.Posted.{ArePosted, AreWithinReach, due_end, merged_of}
 use Rattle.interval_ledger.specs.Queue.{Queued}
+use Rattle.interval_ledger.specs.Settlement.{needed_items}
 use Rattle.interval_ledger.specs.Watch.{WatchView}
 use Rattle.interval_ledger.proofs.EarliestLaws.{none_earliest}
+use Rattle.interval_ledger.proofs.HeadCountLaws.{all_needed, heads_window, more_reading, more_window}
 use Rattle.interval_ledger.proofs.KeptLaws.{due_kept, map_set, posted_so, values_of, windows_of, within_so}
 use Rattle.interval_ledger.proofs.MergingLaws.{window_next}
+use Rattle.interval_ledger.proofs.NeedLaws.{detector_needed, frequency_needed, sampler_needed}
 use Rattle.interval_ledger.proofs.PostedLaws.{got_first, none_due, starts_first}
 use Rattle.interval_ledger.proofs.ReadingLaws.{reading_told}
 use Rattle.interval_ledger.proofs.StopLaws.{basics_wait, readings_wait}
@@ -241,6 +245,7 @@ room_merging old known at keeps =
       left = left_kept old known name at.windows (merged_of old.channels.items) at.left;
       places = places_kept old known name at.places;
       before = start_kept old known name old.basics_merged old.segments.before at.before;
+      heads = at.heads;
     }
 
 -- ---- one window more
@@ -314,6 +319,14 @@ module _ (old : Merging) (until c : ℕ) (may : MayMergeUntil old until)
         let less : left_of (with_merged v) < left_of v = omega (arith, inside) in
         omega (arith, same, sum, was, less)
 
+    -- one more is merged
+    pub window_counts : merged_items after ≡ merged_items old + 1
+    window_counts =
+        let found = found_at old.channels.items c channel_there in
+        ap (λ (vs : List ChannelView). sum (heads_of vs old.basics_merged old.readings_merged))
+        (takes found.0 found.1)
+        ∙ more_window old.channels.items old.basics_merged old.readings_merged c found.0 found.1
+
     pub window_merges : HasPosted old → IsMerging old →
         AddsWindow old.known known (channel_window c x) → IsMerging after
     window_merges posted at adds =
@@ -346,6 +359,12 @@ module _ (old : Merging) (until c : ℕ) (may : MayMergeUntil old until)
               (sym (takes v found.1)) next.3);
           places = places_kept old known name at.places;
           before = start_kept old known name old.basics_merged old.segments.before at.before;
+          heads = subst
+              (λ (vs : List ChannelView).
+              HeadsArePosted vs old.readings.items old.basics_merged old.readings_merged)
+              (sym (takes v found.1))
+              (heads_window old.channels.items old.readings.items old.basics_merged old.readings_merged c v
+              found.1 (got_inside v.windows.items v.merged x own) at.heads);
         }
 
 -- ---- nothing is left before a place
@@ -375,6 +394,9 @@ module _ (old : Merging) (reading : Reading) (next : IsNext old (due.Reading rea
     pub reading_fewer : due_left read < due_left old
     reading_fewer = omega (arith, more, reading_inside)
 
+    pub reading_counts : merged_items read ≡ merged_items old + 1
+    reading_counts = more_reading old.channels.items old.basics_merged old.readings_merged count more
+
     pub reading_merges : HasPosted old → IsMerging old → NoneBefore old reading.end →
         AddsReading old.known known reading → IsMerging read
     reading_merges posted at none adds =
@@ -401,9 +423,26 @@ module _ (old : Merging) (reading : Reading) (next : IsNext old (due.Reading rea
           left = left_kept old known name at.windows (merged_of old.channels.items) at.left;
           places = places_kept old known name at.places;
           before = start_kept old known name old.basics_merged old.segments.before at.before;
+          heads = record {
+            samplers = at.heads.samplers;
+            detectors = at.heads.detectors;
+            frequency = let less = reading_inside in omega (arith, less, more);
+          };
         }
 
 -- ---- the mark
+
+-- what a settled place needs is merged
+pub needed_by : (s : Merging) (posted : HasPosted s) (at : IsMerging s) (w : ℕ) →
+    IsSettled s.known.recording s.known.limits (merged_by s at.windows) w →
+    needed_items s.known.recording w ≤ merged_items s
+needed_by s posted at w settled =
+    let r = s.known.recording in
+    let m = merged_by s at.windows in
+    all_needed r w s.channels.items s.basics_merged s.readings_merged posted.posted.many
+    (λ p inside. sampler_needed r s.known.limits m w settled p inside)
+    (λ p inside. detector_needed r s.known.limits m w settled (merged_of s.channels.items) p inside at.left)
+    (frequency_needed r s.known.limits m w settled)
 
 module _ (old : Merging) (posted : HasPosted old) (at : IsMerging old) (w : ℕ) (merged : HasMerged old w)
   where
@@ -455,6 +494,7 @@ module _ (old : Merging) (posted : HasPosted old) (at : IsMerging old) (w : ℕ)
               left = left_kept old known name at.windows (merged_of old.channels.items) at.left;
               places = places_kept old known name at.places;
               before = start_kept old known name old.basics_merged old.segments.before at.before;
+              heads = at.heads;
             });
           }
 
@@ -476,6 +516,9 @@ module _ (old : Merging) (posted : HasPosted old) (at : IsMerging old) (w : ℕ)
                   ∙ ap (λ n. cut n (sequential r limits)) (sym at_end)
                   ∙ ap (λ (q : Recorded). cut w (sequential q limits)) (sym name.recording_same)
                   ∙ ap (λ (l : Limits). cut w (sequential known.recording l)) (sym name.limits_same);
+              heads = at.heads;
+              needed = subst (λ (q : Recorded). needed_items q w ≤ merged_items old) (sym name.recording_same)
+                  (needed_by old posted at w settled);
             });
           }
 

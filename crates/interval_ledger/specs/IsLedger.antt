@@ -3,7 +3,7 @@
 use Rattle.event_detect.specs.Threshold.{IsInOrder}
 use Rattle.interval_ledger.specs.declared.merging.Merging.{Merging}
 use Rattle.interval_ledger.specs.Count.{HasRoom, counts_of}
-use Rattle.interval_ledger.specs.Merging.{HoldsCut}
+use Rattle.interval_ledger.specs.Merging.{HoldsCut, merged_items}
 use Rattle.interval_ledger.specs.Settlement.{IsPosted, SettlementView}
 
 -- what is seen of it
@@ -13,6 +13,7 @@ settlement_of s = record {
   limits = s.known.limits;
   counts = counts_of s.channels.items s.readings.items;
   mark = s.mark;
+  merged = merged_items s;
 }
 
 pub record IsLedger (s : Merging) : Type 0 where

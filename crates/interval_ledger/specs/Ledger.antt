@@ -1,9 +1,9 @@
--- What contracts see of a ledger: what it is about, how many items of each lane are posted, and the mark, up
--- to which the sequential result is released. All of it is profile.
-use Rattle.std.specs.Prelude.{◌≡◌, ℕ, ◌+◌, List, Some, slice_get}
+-- What contracts see of a ledger: what it is about, how many items of each lane are posted, the mark, up to
+-- which the sequential result is released, and how many items of all lanes are merged. All of it is profile.
+use Rattle.std.specs.Prelude.{◌≡◌, ℕ, ◌+◌, ◌≤◌, List, length, Some, slice_get}
 use Rattle.interval_ledger.specs.declared.ledger.Ledger.{Ledger}
 use Rattle.interval_ledger.specs.declared.subject.Subject.{Subject}
-use Rattle.interval_ledger.specs.Settlement.{SettlementView, posted_count, settled_items, with_posts}
+use Rattle.interval_ledger.specs.Settlement.{IsMergedWithin, SettlementView, posted_count, settled_items, with_posts}
 use Rattle.lanes.specs.declared.lane_item.LaneItem.{LaneItem}
 use Rattle.lanes.specs.Lane.{IsWithinReaches, lane_count, lane_items, reach}
 use Rattle.pq_items.specs.declared.item.Item.{Item}
@@ -26,12 +26,17 @@ count_of l lane = posted_count (view_of l) lane
 abbrev pub reach_of : Ledger → ℕ → ℕ
 reach_of l lane = reach (view_of l).recording lane (count_of l lane)
 
--- the place up to which the result is released, and what is: the part of the sequential result that ends by it
+-- the place up to which the result is released, and what is released: the part of the sequential result that
+-- ends by it
 abbrev pub mark_of : Ledger → ℕ
 mark_of l = (view_of l).mark
 
 abbrev pub released_of : Ledger → List Item
 released_of l = settled_items (view_of l)
+
+-- how many items of all lanes are merged, which is what makes them known
+abbrev pub merged_of : Ledger → ℕ
+merged_of l = (view_of l).merged
 
 -- the item is the lane's next
 abbrev pub IsNextItem : Ledger → ℕ → LaneItem → Type 0
@@ -57,3 +62,14 @@ PostsOne old new lane = PostsMany old new lane 1
 pub record KeepsCounts (old new : Ledger) : Type 0 where
   pub subject_same : subject_of new ≡ subject_of old
   pub counts_same : (view_of new).counts ≡ (view_of old).counts
+
+-- no item less is merged: at least as many as the mark needs, and at most those that are posted
+pub record MergesOn (old new : Ledger) : Type 0 where
+  pub rises : merged_of old ≤ merged_of new
+  pub within : IsMergedWithin (view_of new)
+
+-- a tick at most for each newly merged item and for each newly released one, and one more
+abbrev pub TicksAtMost : ℕ → ℕ → Ledger → Ledger → Type 0
+TicksAtMost before after old new =
+    after + (merged_of old + length (released_of old))
+    ≤ before + (merged_of new + length (released_of new)) + 1

@@ -12,8 +12,10 @@ pub mod Queue
 pub mod Segment
 pub mod Watch
 pub mod Posted
+pub mod Heads
 pub mod Merging
 pub mod Settlement
 pub mod IsLedger
 pub mod Ledger
+pub mod StepLaw
 pub mod Opening

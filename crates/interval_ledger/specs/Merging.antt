@@ -1,6 +1,6 @@
 -- What contracts see of merging: what is posted, how much of it is merged, and what is known by that. All of
 -- it is profile.
-use Rattle.std.specs.Prelude.{◌≡◌, ◌⊎◌, ℕ, ◌+◌, ◌-◌, ◌^◌, ◌<◌, List, [], ◌∷◌, length, map, take, sum_by, Option, None, Some, slice_get, slice_set, option_and_then}
+use Rattle.std.specs.Prelude.{◌≡◌, ◌⊎◌, ℕ, ◌+◌, ◌-◌, ◌^◌, ◌<◌, ◌≤◌, List, [], ◌∷◌, length, map, take, sum, sum_by, Option, None, Some, slice_get, slice_set, option_and_then}
 use Rattle.std.specs.Option.{option_map_or}
 use Rattle.aggregate.specs.Aggregation.{Basic}
 use Rattle.event_detect.specs.declared.window.Window.{Window}
@@ -8,11 +8,13 @@ use Rattle.interval_ledger.specs.declared.merging.Merging.{Merging}
 use Rattle.interval_ledger.specs.declared.next_due.Due.{Due}
 use Rattle.interval_ledger.specs.Channel.{ChannelView, first_starts, with_merged}
 use Rattle.interval_ledger.specs.Earliest.{NoneBelow}
+use Rattle.interval_ledger.specs.Heads.{HeadsArePosted, heads_of}
 use Rattle.interval_ledger.specs.Known.{IsKnown}
 use Rattle.interval_ledger.specs.Left.{IsLeft}
 use Rattle.interval_ledger.specs.Merged.{Merged, all_basics}
 use Rattle.interval_ledger.specs.NextDue.{IsNextDue}
 use Rattle.interval_ledger.specs.Posted.{ArePosted, AreWithinReach, due_end, merged_of}
+use Rattle.interval_ledger.specs.Settlement.{needed_items}
 use Rattle.pq_base.specs.Recorded.{IsRecording, sample_count}
 use Rattle.pq_sequence.specs.MeasuredRecording.{recorded_places}
 use Rattle.pq_sequence.specs.SequentialResult.{cut, sequential}
@@ -35,6 +37,14 @@ pub record HasPosted (s : Merging) : Type 0 where
   pub samples_are : s.samples ≡ sample_count s.known.recording
   pub posted : ArePosted s.known.recording s.channels.items s.readings.items
 
+-- of each lane no more is merged than is posted
+abbrev pub HasHeads : Merging → Type 0
+HasHeads s = HeadsArePosted s.channels.items s.readings.items s.basics_merged s.readings_merged
+
+-- how many items of all lanes are merged
+abbrev pub merged_items : Merging → ℕ
+merged_items s = sum (heads_of s.channels.items s.basics_merged s.readings_merged)
+
 -- at a mark below the end: what is known is of what is merged, and what is left is of what is not
 pub record IsMerging (s : Merging) : Type 0 where
   pub windows : ℕ
@@ -45,11 +55,14 @@ pub record IsMerging (s : Merging) : Type 0 where
   pub places : s.segments.places ≡ recorded_places s.known.recording
   pub before : s.segments.before
       ≡ latest_start (take s.basics_merged (all_basics s.known.recording s.known.limits))
+  pub heads : HasHeads s
 
--- at the end: what is released is the whole result
+-- at the end: what is released is the whole result, and all that it needs is merged
 pub record HasEnded (s : Merging) : Type 0 where
   pub at_end : s.mark ≡ s.samples
   pub is_cut : s.known.outbox.released ≡ cut s.mark (sequential s.known.recording s.known.limits)
+  pub heads : HasHeads s
+  pub needed : needed_items s.known.recording s.mark ≤ merged_items s
 
 -- what is released is the cut at the mark, and the rest can be merged
 pub record HoldsCut (s : Merging) : Type 0 where
@@ -131,3 +144,18 @@ due_left s =
     option_map_or (λ (c : ChannelView). length c.values.items) (slice_get s.channels.items 0) 0
     - s.basics_merged
     + (length s.readings.items - s.readings_merged)
+
+-- no item less is merged, and there are no more steps than items more
+pub record MergesItems (before after : ℕ) (old new : Merging) : Type 0 where
+  pub rises : merged_items old ≤ merged_items new
+  pub ticks : after + merged_items old ≤ before + merged_items new
+
+-- how many items are merged or released
+abbrev pub merging_done : Merging → ℕ
+merging_done s = merged_items s + length s.known.outbox.released
+
+-- no item less is merged, and there are at most as many steps as items more that are merged or released, and
+-- so many more
+pub record DoesItems (spare before after : ℕ) (old new : Merging) : Type 0 where
+  pub rises : merged_items old ≤ merged_items new
+  pub ticks : after + merging_done old ≤ before + merging_done new + spare

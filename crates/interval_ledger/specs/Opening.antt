@@ -5,8 +5,8 @@ use Rattle.pq_base.specs.Recorded.{Recorded, sample_count}
 use Rattle.pq_sequence.specs.BasicInterval.{cycles_of}
 use Rattle.pq_sequence.specs.MeasuredRecording.{channel_count, recorded_rule}
 
--- room for the values of a channel, among so many 10-minute ticks: one for as many samples as their cycles have
--- at least, and one more for each tick
+-- room for the values of a channel, among so many 10-minute ticks: one for as many samples as their cycles
+-- have at least, and one more for each tick
 abbrev pub value_room : Recorded → ℕ → ℕ
 value_room r ticks = sample_count r / (2 * (recorded_rule r).lo * cycles_of r.lf) + ticks
 

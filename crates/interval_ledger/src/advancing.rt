@@ -1,6 +1,6 @@
 // Advancing: the mark moves to a place up to which everything is merged.
 ghost use Rattle.std.specs.Prelude.{◌≡◌, ◌≢◌, ◌<◌, max, OnOk, OnErr};
-ghost use Rattle.interval_ledger.specs.Merging.{HasMerged, HasPosted, HoldsCut, IsMerging, IsWithinReach, KeepsPosted};
+ghost use Rattle.interval_ledger.specs.Merging.{DoesItems, HasMerged, HasPosted, HoldsCut, IsMerging, IsWithinReach, KeepsPosted};
 
 use crate::merging::Merging;
 use crate::steps::Steps;
@@ -20,6 +20,7 @@ impl Merging {
         requires within { IsWithinReach self.old w }
         ensures cut { HoldsCut self.new }
         ensures same { KeepsPosted self.old self.new }
+        ensures ticks { DoesItems 1 steps.old steps.new self.old self.new }
         ensures value { OnOk result (self.new.mark ≡ max self.old.mark w) }
         ensures err { OnErr result (self.new.mark ≡ self.old.mark) }
     {
@@ -38,6 +39,7 @@ impl Merging {
         requires later { self.old.mark < w }
         ensures cut { HoldsCut self.new }
         ensures same { KeepsPosted self.old self.new }
+        ensures ticks { DoesItems 0 steps.old steps.new self.old self.new }
         ensures value { OnOk result (self.new.mark ≡ w) }
         ensures err { OnErr result (self.new.mark ≡ self.old.mark) }
     {
@@ -53,6 +55,7 @@ impl Merging {
         requires later { self.old.mark < w }
         ensures cut { HoldsCut self.new }
         ensures same { KeepsPosted self.old self.new }
+        ensures ticks { DoesItems 0 steps.old steps.new self.old self.new }
         ensures value { OnOk result (self.new.mark ≡ w) }
         ensures err { OnErr result (self.new.mark ≡ self.old.mark) }
     {
@@ -73,6 +76,7 @@ impl Merging {
         requires other { w ≢ self.old.samples }
         ensures cut { HoldsCut self.new }
         ensures same { KeepsPosted self.old self.new }
+        ensures ticks { DoesItems 0 steps.old steps.new self.old self.new }
         ensures value { self.new.mark ≡ w }
     {
         self.known.release(w, steps);
@@ -87,6 +91,7 @@ impl Merging {
         requires end { n ≡ self.old.samples }
         ensures cut { HoldsCut self.new }
         ensures same { KeepsPosted self.old self.new }
+        ensures ticks { DoesItems 0 steps.old steps.new self.old self.new }
         ensures value { OnOk result (self.new.mark ≡ n) }
         ensures err { OnErr result (self.new.mark ≡ self.old.mark) }
     {

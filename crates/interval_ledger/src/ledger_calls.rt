@@ -1,7 +1,7 @@
 // The calls of the ledger.
 ghost use Rattle.std.specs.Prelude.{◌≡◌, ◌<◌, length, max, slice_get, IfOk, OnOk, OnErr};
 ghost use Rattle.event_detect.specs.Threshold.{IsInOrder};
-ghost use Rattle.interval_ledger.specs.Ledger.{IsNextItem, IsReached, KeepsCounts, PostsOne, count_of, lanes_of, mark_of, released_of, view_of};
+ghost use Rattle.interval_ledger.specs.Ledger.{IsNextItem, IsReached, KeepsCounts, MergesOn, PostsOne, TicksAtMost, count_of, lanes_of, mark_of, released_of, view_of};
 ghost use Rattle.interval_ledger.specs.Settlement.{nothing_posted};
 
 use crate::ledger::Ledger;
@@ -38,7 +38,8 @@ impl Ledger {
     }
 
     /// Moves the mark to a place within the reach of each lane, if it lies after the mark, and so releases
-    /// what ends by it.
+    /// what ends by it. It takes a step at most for each item that it merges, one for each that it releases,
+    /// and one more.
     ///
     /// # Errors
     ///
@@ -46,6 +47,8 @@ impl Ledger {
     pub fn advance<L: Tally>(&mut self, w: u64, steps: &mut Steps<L>) -> Result<(), AllocError>
         requires { IsReached self.old w }
         ensures same { KeepsCounts self.old self.new }
+        ensures merged { MergesOn self.old self.new }
+        ensures ticks { TicksAtMost steps.old steps.new self.old self.new }
         ensures ok { OnOk result (mark_of self.new ≡ max (mark_of self.old) w) }
         ensures err { OnErr result (mark_of self.new ≡ mark_of self.old) }
     {

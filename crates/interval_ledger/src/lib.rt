@@ -3,6 +3,7 @@
 
 pub use ledger::Ledger;
 pub use outbox::Outbox;
+pub use step_law::ticks_are_few;
 pub use steps::Steps;
 pub use subject::Subject;
 
@@ -24,6 +25,7 @@ mod roots;
 mod segments;
 mod settlement;
 mod shared;
+mod step_law;
 mod steps;
 mod subject;
 #[cfg(test)]

@@ -2,7 +2,7 @@
 ghost use Rattle.std.specs.Prelude.{◌≡◌, ◌+◌, ◌<◌, ◌≤◌, length, Some, IsSome, OnOk};
 ghost use Rattle.interval_ledger.specs.Channel.{first_starts};
 ghost use Rattle.interval_ledger.specs.Earliest.{IsFirstLeast};
-ghost use Rattle.interval_ledger.specs.Merging.{HasMerged, HasPosted, IsDue, IsMerging, IsNext, IsWithinReach, KeepsMark, MayMergeUntil, MergesWindows, NoneBefore, TakesWindow, count_left, due_left, first_left};
+ghost use Rattle.interval_ledger.specs.Merging.{HasMerged, HasPosted, IsDue, IsMerging, IsNext, IsWithinReach, KeepsMark, MayMergeUntil, MergesItems, MergesWindows, NoneBefore, TakesWindow, count_left, due_left, first_left};
 
 use crate::channel::{Channel, SpanValue};
 use crate::first_start::earliest;
@@ -44,6 +44,7 @@ impl Merging {
         requires within { IsWithinReach self.old w }
         ensures at { IsMerging self.new }
         ensures same { KeepsMark self.old self.new }
+        ensures ticks { MergesItems steps.old steps.new self.old self.new }
         ensures merged { OnOk result (HasMerged self.new w) }
     {
         while let Some(due) = self.due(w) {
@@ -74,6 +75,7 @@ impl Merging {
         requires next { IsNext self.old due }
         ensures at { IsMerging self.new }
         ensures same { KeepsMark self.old self.new }
+        ensures ticks { MergesItems steps.old steps.new self.old self.new }
         ensures fewer { OnOk result (due_left self.new < due_left self.old) }
     {
         self.merge_windows(due.end(), steps)?;
@@ -95,6 +97,7 @@ impl Merging {
         requires none { NoneBefore self.old first.end }
         ensures at { IsMerging self.new }
         ensures same { KeepsMark self.old self.new }
+        ensures ticks { MergesItems steps.old steps.new self.old self.new }
         ensures fewer { OnOk result (due_left self.new < due_left self.old) }
     {
         let span = Span {
@@ -124,6 +127,7 @@ impl Merging {
         requires none { NoneBefore self.old reading.end }
         ensures at { IsMerging self.new }
         ensures same { KeepsMark self.old self.new }
+        ensures ticks { MergesItems steps.old steps.new self.old self.new }
         ensures fewer { OnOk result (due_left self.new < due_left self.old) }
     {
         self.known.add_reading(reading)?;
@@ -143,6 +147,7 @@ impl Merging {
         requires until { MayMergeUntil self.old until }
         ensures at { IsMerging self.new }
         ensures same { MergesWindows self.old self.new }
+        ensures ticks { MergesItems steps.old steps.new self.old self.new }
         ensures none { OnOk result (NoneBefore self.new until) }
     {
         while let Some(position) = earliest(&self.channels, until) {
@@ -165,6 +170,7 @@ impl Merging {
         requires first { IsFirstLeast (first_starts self.old.channels.items) until position }
         ensures at { IsMerging self.new }
         ensures same { MergesWindows self.old self.new }
+        ensures ticks { MergesItems steps.old steps.new self.old self.new }
         ensures fewer { OnOk result (count_left self.new < count_left self.old) }
     {
         let Some(window) = first_left(&self.channels, position) else {

@@ -1,7 +1,7 @@
-// What is posted, and the mark, seen without the queues.
+// What is posted, the mark and how much is merged, seen without the queues.
 ghost use Rattle.std.specs.Prelude.{◌≡◌, ◌<◌, Some, length, max, slice_get, IfOk, OnOk, OnErr};
 ghost use Rattle.event_detect.specs.Threshold.{IsInOrder};
-ghost use Rattle.interval_ledger.specs.Settlement.{IsPosted, nothing_posted, posted_count, settled_items, with_mark, with_post};
+ghost use Rattle.interval_ledger.specs.Settlement.{Advances, IsPosted, advanced_to, nothing_posted, posted_count, settled_items, with_post};
 ghost use Rattle.lanes.specs.Lane.{IsWithinReaches, lane_count, lane_items};
 
 use crate::merging::Merging;
@@ -16,7 +16,8 @@ use std::alloc::{AllocError, Global};
 use std::marker::Model;
 use std::sync::ledger::Ledger;
 
-/// Merging, of which what is released is the cut at the mark. It is seen as what is posted and the mark.
+/// Merging, of which what is released is the cut at the mark. It is seen as what is posted, the mark, and how
+/// many items are merged.
 #[derive(Drop)]
 pub(crate) struct Settlement {
     merging: Merging,
@@ -62,15 +63,17 @@ impl Settlement {
         );
     }
 
-    // Moves the mark to a place, if that lies after it.
+    // Moves the mark to a place, if that lies after it. A step at most for each item that is merged or
+    // released by it, and one more.
     pub(crate) fn advance<L: Ledger>(
         &mut self,
         w: u64,
         steps: &mut Steps<L>,
     ) -> Result<(), AllocError>
         requires { IsWithinReaches self.old.recording self.old.counts w }
-        ensures same { self.new ≡ with_mark self.old self.new.mark }
+        ensures same { self.new ≡ advanced_to self.old self.new.mark self.new.merged }
         ensures posted { IsPosted self.new }
+        ensures ticks { Advances steps.old steps.new self.old self.new }
         ensures ok { OnOk result (self.new.mark ≡ max self.old.mark w) }
         ensures err { OnErr result (self.new.mark ≡ self.old.mark) }
     {

@@ -8,7 +8,7 @@ use Rattle.interval_ledger.specs.Merging.{HasPosted, IsMerging, IsNext, NoneBefo
 use Rattle.interval_ledger.specs.Posted.{all_roots}
 use Rattle.interval_ledger.specs.Segment.{SegmentsView, is_first_of_segment}
 use Rattle.interval_ledger.specs.Watch.{TellsTouch}
-use Rattle.interval_ledger.proofs.BasicStateLaws.{basic_fewer, basic_follows, basic_inside, basic_is, basic_merges, due_basic, first_there, starts_later}
+use Rattle.interval_ledger.proofs.BasicStateLaws.{basic_counts, basic_fewer, basic_follows, basic_inside, basic_is, basic_merges, due_basic, first_there, starts_later}
 use Rattle.interval_ledger.proofs.merging.Merging.merge_basic.Goals as goal
 
 taken_roots : (own channels : List ChannelView) (k n : ℕ) (roots : List ℕ) → channels ≡ own →
@@ -85,3 +85,15 @@ returns-clause-fewer g c =
     let r = c.requires in
     basic_fewer s r.posted r.at c.args.first r.next c.add_basic.new.self c.pass.new.self
     c.next_index-self.result c.next_index-self.ensures c.add_basic.ensures.name
+
+-- and one of each sampler more is merged
+pub returns-clause-ticks : goal.returns-clause-ticks
+returns-clause-ticks g c =
+    let s = c.args.self.now in
+    let r = c.requires in
+    let more = basic_counts s r.posted r.at c.args.first r.next c.add_basic.new.self c.pass.new.self
+    c.next_index-self.result c.next_index-self.ensures c.add_basic.ensures.name in
+    let tick = c.tick.ensures in record {
+      rises = omega (arith, more);
+      ticks = omega (arith, more, tick);
+    }

@@ -1,7 +1,7 @@
 use Rattle.std.proofs.Common.{◌∙◌, Some, ap, subst}
 use Rattle.interval_ledger.specs.Merging.{IsNext, NoneBefore}
 use Rattle.interval_ledger.specs.Posted.{end_of_due}
-use Rattle.interval_ledger.proofs.JoinLaws.{fewer_left, marks_twice, marks_windows}
+use Rattle.interval_ledger.proofs.JoinLaws.{fewer_left, items_twice, marks_twice, marks_windows}
 use Rattle.interval_ledger.proofs.StateLaws.{next_stays, posted_kept}
 use Rattle.interval_ledger.proofs.merging.Merging.merge_due.Goals as goal
 
@@ -36,6 +36,12 @@ returns-in-Basic-clause-fewer g c =
     fewer_left c.args.self.now c.merge_windows.new.self c.merge_basic.new.self c.merge_basic.result
     c.merge_windows.ensures.same c.merge_basic.ensures.fewer
 
+pub returns-in-Basic-clause-ticks : goal.returns-in-Basic-clause-ticks
+returns-in-Basic-clause-ticks g c =
+    items_twice c.args.self.now c.merge_windows.new.self c.merge_basic.new.self c.args.steps.now
+    c.merge_windows.new.steps c.merge_basic.new.steps c.merge_windows.ensures.ticks
+    c.merge_basic.ensures.ticks
+
 -- a reading
 pub merge_reading-requires : goal.merge_reading-requires
 merge_reading-requires g c =
@@ -60,6 +66,12 @@ pub returns-in-Reading-clause-fewer : goal.returns-in-Reading-clause-fewer
 returns-in-Reading-clause-fewer g c =
     fewer_left c.args.self.now c.merge_windows.new.self c.merge_reading.new.self c.merge_reading.result
     c.merge_windows.ensures.same c.merge_reading.ensures.fewer
+
+pub returns-in-Reading-clause-ticks : goal.returns-in-Reading-clause-ticks
+returns-in-Reading-clause-ticks g c =
+    items_twice c.args.self.now c.merge_windows.new.self c.merge_reading.new.self c.args.steps.now
+    c.merge_windows.new.steps c.merge_reading.new.steps c.merge_windows.ensures.ticks
+    c.merge_reading.ensures.ticks
 
 -- memory is short
 pub returns-in_err-merge_windows-clause-same : goal.returns-in_err-merge_windows-clause-same

@@ -1,5 +1,5 @@
 use Rattle.std.proofs.Common.{refl, arith}
-use Rattle.interval_ledger.proofs.StateLaws.{kept_by, reading_fewer, reading_inside, reading_merges, room_merging}
+use Rattle.interval_ledger.proofs.StateLaws.{kept_by, reading_counts, reading_fewer, reading_inside, reading_merges, room_merging}
 use Rattle.interval_ledger.proofs.merging.Merging.merge_reading.Goals as goal
 
 -- it is posted
@@ -26,6 +26,16 @@ pub returns-clause-fewer : goal.returns-clause-fewer
 returns-clause-fewer g c =
     reading_fewer c.args.self.now c.args.reading c.requires.next c.add_reading.new.self
     c.next_index-self.result c.next_index-self.ensures c.add_reading.ensures.name
+
+-- and one more is merged
+pub returns-clause-ticks : goal.returns-clause-ticks
+returns-clause-ticks g c =
+    let one = reading_counts c.args.self.now c.args.reading c.requires.next c.add_reading.new.self
+    c.next_index-self.result c.next_index-self.ensures c.add_reading.ensures.name in
+    let tick = c.tick.ensures in record {
+      rises = omega (arith, one);
+      ticks = omega (arith, one, tick);
+    }
 
 -- memory is short
 pub returns-in_err-add_reading-clause-at : goal.returns-in_err-add_reading-clause-at

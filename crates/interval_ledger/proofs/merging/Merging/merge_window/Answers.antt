@@ -1,6 +1,6 @@
 use Rattle.std.proofs.Common.{sym, ◌∙◌, ap, arith}
 use Rattle.interval_ledger.specs.Merging.{first_left}
-use Rattle.interval_ledger.proofs.StateLaws.{channel_there, window_fewer, window_kept, window_merges}
+use Rattle.interval_ledger.proofs.StateLaws.{channel_there, window_counts, window_fewer, window_kept, window_merges}
 use Rattle.interval_ledger.proofs.merging.Merging.merge_window.Goals as goal
 
 -- the channel is one of the recording
@@ -41,3 +41,17 @@ returns-clause-fewer g c =
     ∙ sym c.first_left.ensures
     ∙ c.in-Some.is)
     c.add_window.ensures.name c.take_window.ensures
+
+-- and one more is merged
+pub returns-clause-ticks : goal.returns-clause-ticks
+returns-clause-ticks g c =
+    let one = window_counts c.args.self.now c.args.until c.args.position c.requires.until c.requires.first
+    c.in-Some.window c.add_window.new.self c.take_window.new.channels
+    (ap (λ xs. first_left xs c.args.position) (sym c.deref.ensures.value)
+    ∙ sym c.first_left.ensures
+    ∙ c.in-Some.is)
+    c.add_window.ensures.name c.take_window.ensures in
+    let tick = c.tick.ensures in record {
+      rises = omega (arith, one);
+      ticks = omega (arith, one, tick);
+    }

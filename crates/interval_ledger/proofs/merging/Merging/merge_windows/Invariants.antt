@@ -1,4 +1,4 @@
-use Rattle.interval_ledger.specs.Merging.{HasPosted, IsMerging, MayMergeUntil, MergesWindows, count_left}
+use Rattle.interval_ledger.specs.Merging.{HasPosted, IsMerging, MayMergeUntil, MergesItems, MergesWindows, count_left}
 use Rattle.interval_ledger.proofs.merging.Merging.merge_windows.Given as goal
 
 -- the windows so far are merged
@@ -8,6 +8,7 @@ invariant-loop-position g l = record {
   at : IsMerging l.self;
   until : MayMergeUntil l.self l.until;
   same : MergesWindows l.fn.self l.self;
+  ticks : MergesItems l.fn.steps l.steps l.fn.self l.self;
 }
 
 abbrev pub decreases-loop-position : goal.decreases-loop-position

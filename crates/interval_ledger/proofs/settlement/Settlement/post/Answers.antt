@@ -2,6 +2,7 @@ use Rattle.std.proofs.Common.{◌≡◌, ℕ, Some, slice_get, slice_index, sym,
 use Rattle.interval_ledger.specs.declared.merging.Merging.{Merging}
 use Rattle.interval_ledger.specs.Count.{counts_of}
 use Rattle.interval_ledger.specs.IsLedger.{settlement_of}
+use Rattle.interval_ledger.specs.Merging.{merged_items}
 use Rattle.interval_ledger.specs.Settlement.{SettlementView, posted_count, with_post}
 use Rattle.interval_ledger.proofs.LedgerLaws.{IsAfterPost, after_post, has_place}
 use Rattle.lanes.specs.declared.lane_item.LaneItem.{LaneItem}
@@ -40,5 +41,9 @@ returns-clause-posted c = (after c).0.posted
 -- only the lane's count is another
 pub returns-clause-value : goal.returns-clause-value
 returns-clause-value c =
-    let seen : SettlementView = settlement_of c.self.inside.merging in
-    ap (λ ns. record seen { counts = ns }) (after c).1 ∙ ap (λ v. with_post v c.args.lane) c.self.view_is
+    let s : Merging = c.self.inside.merging in
+    let t : Merging = record s { channels = c.post.new.channels; readings = c.post.new.readings } in
+    let seen : SettlementView = settlement_of s in
+    ap (λ ns. record seen { counts = ns; merged = merged_items t }) (after c).1
+    ∙ ap (λ n. record (with_post seen c.args.lane) { merged = n }) (after c).2
+    ∙ ap (λ v. with_post v c.args.lane) c.self.view_is
