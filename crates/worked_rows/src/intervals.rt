@@ -1,13 +1,13 @@
 // The command `intervals` on worked recordings, on cfgs and dats that are refused, and on calls that fail.
 use crate::reports::{
-    ALL_ZERO, AT_THRESHOLD, BELOW_THRESHOLD, HALVED, HEADER, ONE_ROW, OVER_TICK, TWO_ROWS,
+    ALL_ZERO, AT_THRESHOLD, BELOW_THRESHOLD, HALVED, ONE_ROW, OVER_TICK, TWO_ROWS,
 };
 use comtrade_cfg::Quantity;
 use pq_run::{DatFault, Status};
 use std::alloc::{AllocError, Global};
 use std::test::Fail;
 use worked_signals::{
-    Outside, Signal, WHOLE, WORKED, Written, cfg, dat, one_channel, run, run_analyse,
+    HEADER, Outside, Signal, WHOLE, WORKED, Written, cfg, dat, one_channel, run, run_analyse,
 };
 
 const WORDS: [&str; 5] = ["intervals", "--udin", "230000", "a.cfg", "a.dat"];

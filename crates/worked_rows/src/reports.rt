@@ -1,6 +1,4 @@
 // Reports of worked recordings, by hand: at 1200 Hz a sample is taken each 1/1200 s, and 24 make a cycle.
-pub const HEADER: &str = "kind,channel,start,end,from,to,tick,value,count,mark\n";
-
 // The second interval would end with a crossing that has no sample.
 pub const ONE_ROW: &str = "kind,channel,start,end,from,to,tick,value,count,mark
 basic,1,24,264,2024-03-01T12:00:01.020000000Z,2024-03-01T12:00:01.220000000Z,,229805362,10,clear

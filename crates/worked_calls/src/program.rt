@@ -1,5 +1,4 @@
 // The run of the program: its code, and the line that it tells.
-use crate::reports::HEADER;
 use lane_workers::OpenGate;
 use pq_base::{MemShelf, MemSink};
 use pq_run::{Streams, run};
@@ -7,7 +6,7 @@ use std::alloc::Global;
 use std::sync::Wait;
 use std::test::Fail;
 use std::thread::Threads;
-use worked_signals::{WORKED, cfg, strings};
+use worked_signals::{HEADER, WORKED, cfg, strings};
 
 // What a run gave.
 #[derive(Drop)]
