@@ -184,10 +184,8 @@ module _ (old : Merging) (posted : HasPosted old) (at : IsMerging old) (first : 
         omega (arith, more, long, inside)
 
     -- one of each sampler more is merged
-    pub basic_counts : merged_items old + 1 ≤ merged_items fed_on
-    basic_counts =
-        let each = more_basic old.channels.items old.basics_merged old.readings_merged count more in
-        omega (arith, each, first_there)
+    pub basic_counts : merged_items fed_on ≡ merged_items old + length old.channels.items
+    basic_counts = more_basic old.channels.items old.basics_merged old.readings_merged count more
 
     pub basic_merges : (b : Basic) → b ≡ due_basic → AddsBasic old.known known b →
         segments ≡ record old.segments { before = Some first.start } → IsMerging fed_on

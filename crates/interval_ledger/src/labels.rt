@@ -2,17 +2,18 @@
 ghost use Rattle.std.specs.Prelude.{◌≡◌, ◌+◌, ◌*◌, ◌<◌, ◌≤◌, [], ◌∷◌, length, option_to_list, IfOk};
 ghost use Rattle.aggregate.specs.Sum.{part_of};
 ghost use Rattle.interval_ledger.specs.Added.{answered_items};
-ghost use Rattle.interval_ledger.specs.Label.{Adds, AddsCompleted, AddsGroup, AddsGroups, AddsPart, frequency_item, group_item, item_of_group};
+ghost use Rattle.interval_ledger.specs.Label.{Adds, AddsCompleted, AddsGroup, AddsGroups, AddsPart, frequency_item};
 ghost use Rattle.pq_sequence.specs.BasicInterval.{cycles_of};
-ghost use Rattle.pq_sequence.specs.SequentialResult.{basic_item, event_items, item_of_kind, number_of};
+ghost use Rattle.pq_sequence.specs.Measured.{group_item};
+ghost use Rattle.pq_sequence.specs.SequentialResult.{basic_item, event_items, number_of};
 
-use crate::length::Length;
 use crate::outbox::Outbox;
 use aggregate::{Group, Out};
-use event_detect::{Event, Kind};
+use event_detect::Event;
 use freq10s::Reading;
 use pq_base::Recording;
 use pq_items::Item;
+use pq_sequence::{Length, event_item, item_of_length};
 use std::alloc::{AllocError, Global};
 use std::snapshot::Snapshot;
 use ten_twelve::Span;
@@ -85,7 +86,7 @@ impl Labels {
             (event_items self.now.recording.value (option_to_list event)) }
     {
         if let Some(event) = event {
-            outbox.push(item_of_event(self.number(event.channel), &event));
+            outbox.push(event_item(self.number(event.channel), &event));
         }
     }
 
@@ -165,7 +166,7 @@ impl Labels {
         ensures { result ≡ group_item long self.now.recording.value group.now position }
     {
         let value = group.values.get(position).copied().unwrap_or(0);
-        item_of_group(long, self.numbers[position], group, value)
+        item_of_length(long, self.numbers[position], group, value)
     }
 
     // The number of the channel at a position, and 0 past the channels.
@@ -173,81 +174,5 @@ impl Labels {
         ensures { result ≡ number_of self.now.recording.value position }
     {
         self.numbers.get(position as usize).copied().unwrap_or(0)
-    }
-}
-
-// An aggregated interval of a length as an item of a channel, with its value.
-fn item_of_group(long: Length, channel: u32, group: &Group, value: u64) -> Item
-    ensures { result ≡ item_of_group long channel value group.now }
-{
-    let Group {
-        start,
-        end,
-        flagged,
-        ..
-    } = *group;
-    let tick = group.tick.unwrap_or(0);
-    match long {
-        Length::Short => Item::Short {
-            channel,
-            start,
-            end,
-            value,
-            flagged,
-        },
-        Length::TenMinutes => Item::Ten {
-            channel,
-            tick,
-            start,
-            end,
-            basics: group.count,
-            value,
-            flagged,
-        },
-        Length::TwoHours => Item::TwoHour {
-            channel,
-            tick,
-            start,
-            end,
-            value,
-            flagged,
-        },
-    }
-}
-
-// An event as an item, with the number of its channel.
-fn item_of_event(channel: u32, event: &Event) -> Item
-    ensures { result ≡ item_of_kind event.now.kind channel event.now }
-{
-    let Event {
-        kind,
-        start,
-        end,
-        value,
-        is_open,
-        ..
-    } = *event;
-    match kind {
-        Kind::Dip => Item::Dip {
-            channel,
-            start,
-            end,
-            value,
-            is_open,
-        },
-        Kind::Swell => Item::Swell {
-            channel,
-            start,
-            end,
-            value,
-            is_open,
-        },
-        Kind::Interruption => Item::Interruption {
-            channel,
-            start,
-            end,
-            value,
-            is_open,
-        },
     }
 }

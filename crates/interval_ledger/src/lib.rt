@@ -14,7 +14,6 @@ mod known;
 mod labels;
 mod ledger;
 mod ledger_calls;
-mod length;
 mod merging;
 mod next_due;
 mod opening;

@@ -33,7 +33,7 @@ pub(crate) struct Merging {
 
 impl Merging {
     // Merges all that ends by a place within the reaches, and the windows that begin before it. A step for
-    // each window, basic interval and reading.
+    // each window and reading, and for each channel's value of a basic interval.
     pub(crate) fn merge_until<L: Ledger>(
         &mut self,
         w: u64,
@@ -111,7 +111,7 @@ impl Merging {
             .add_basic(span, front, &values[..self.channels.len()], flagged)?;
         self.segments.pass(span.start);
         self.basics_merged = next_index(self.basics_merged, self.channels[0].values());
-        steps.tick();
+        tick_each(steps, self.channels.len());
         Ok(())
     }
 
@@ -205,4 +205,13 @@ fn next_index(index: usize, count: usize) -> usize
     ensures { result ≡ index + 1 }
 {
     index + 1
+}
+
+// A step for each of so many items.
+fn tick_each<L: Ledger>(steps: &mut Steps<L>, count: usize)
+    ensures { steps.new ≡ steps.old + count }
+{
+    for _ in 0..count {
+        steps.tick();
+    }
 }

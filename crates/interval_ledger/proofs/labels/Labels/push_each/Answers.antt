@@ -1,5 +1,5 @@
-use Rattle.interval_ledger.specs.Label.{group_item}
 use Rattle.interval_ledger.proofs.AddLaws.{adds_none, adds_more}
+use Rattle.pq_sequence.specs.Measured.{group_item}
 use Rattle.interval_ledger.proofs.labels.Labels.push_each.Goals as goal
 
 -- no channel yet

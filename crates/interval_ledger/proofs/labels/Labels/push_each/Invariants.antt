@@ -1,4 +1,5 @@
-use Rattle.interval_ledger.specs.Label.{Adds, group_item}
+use Rattle.interval_ledger.specs.Label.{Adds}
+use Rattle.pq_sequence.specs.Measured.{group_item}
 use Rattle.pq_sequence.proofs.ItemLemmas.{first_items}
 use Rattle.interval_ledger.proofs.labels.Labels.push_each.Given as goal
 

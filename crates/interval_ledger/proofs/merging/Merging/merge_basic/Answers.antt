@@ -93,7 +93,8 @@ returns-clause-ticks g c =
     let r = c.requires in
     let more = basic_counts s r.posted r.at c.args.first r.next c.add_basic.new.self c.pass.new.self
     c.next_index-self.result c.next_index-self.ensures c.add_basic.ensures.name in
-    let tick = c.tick.ensures in record {
+    let ticked = c.tick_each.ensures in
+    let many = c.len-2.ensures in record {
       rises = omega (arith, more);
-      ticks = omega (arith, more, tick);
+      ticks = omega (arith, more, ticked, many);
     }
