@@ -1,5 +1,5 @@
 -- What is known, after one more window or reading, and after a move of the mark.
-use Rattle.std.proofs.Common.{◌≡◌, ℕ, ◌+◌, max, Bool, List, [], ◌∷◌, ◌++◌, filter, take, Option, sym, ◌∙◌, ap, subst}
+use Rattle.std.proofs.Common.{◌≡◌, ℕ, ◌+◌, max, Bool, List, [], ◌∷◌, ◌++◌, filter, take, Option, None, refl, sym, ◌∙◌, ap, subst, append-nil, arith}
 use Rattle.std.specs.List.{list_any}
 use Rattle.aggregate.specs.declared.group.Out.{Out}
 use Rattle.aggregate.specs.Aggregation.{Basic}
@@ -12,7 +12,7 @@ use Rattle.interval_ledger.specs.Known.{AddsBasic, AddsReading, AddsWindow, Ends
 use Rattle.interval_ledger.specs.Label.{Adds}
 use Rattle.interval_ledger.specs.Merged.{IsAtMark, Merged, all_basics}
 use Rattle.interval_ledger.specs.Outbox.{Outgoing, Releases, is_due}
-use Rattle.interval_ledger.specs.Watch.{HasSeen, HasSetting, SeesMore, TellsTouch, WatchView}
+use Rattle.interval_ledger.specs.Watch.{HasSeen, HasSetting, Passes, SeesMore, TellsTouch, WatchView}
 use Rattle.interval_ledger.proofs.FedLaws.{completed_so, ends_so, leaves_so, may_feed}
 use Rattle.interval_ledger.proofs.FinishLaws.{mark_ends}
 use Rattle.interval_ledger.proofs.ReleaseLaws.{mark_moves}
@@ -65,6 +65,18 @@ window_known old watch room out x answers same_released same_pending ends more s
       };
       fed = known.fed;
       grouping = known.grouping;
+    }
+
+-- a watch took one more window that ended no event
+pub passed_known : (old : KnownView) (watch : WatchView) (x : ChannelWindow) → Passes old.watch watch x →
+    HasSetting watch old.watch.poly.channels old.watch.poly.limits →
+    AddsWindow old (record old { watch = watch }) x
+passed_known old watch x passed setting =
+    window_known old watch old.outbox old.outbox x (None ∷ None ∷ None ∷ []) refl refl passed.ends passed.sees
+    setting record {
+      released_same = refl;
+      pending_more = sym (append-nil old.outbox.pending);
+      room_left = omega arith;
     }
 
 -- a reading waits too, with the flag that the watch tells

@@ -7,8 +7,9 @@ use Rattle.event_detect.specs.declared.limits.Limits.{Limits}
 use Rattle.event_detect.specs.VoltageEvent.{event_from, extents, ended_events}
 use Rattle.settled_laws.specs.Greatest.{greatest_end}
 use Rattle.settled_laws.specs.Touch.{latest_end}
-use Rattle.interval_ledger.specs.Watch.{HasSeen, NotesEnds, SeesMore, WatchView, end_of_kind, later_end}
-use Rattle.polyphase.specs.Poly.{Ends, HasSeen as HasSeenByPoly, PolyView, SeesMore as PolySeesMore, answer_of}
+use Rattle.interval_ledger.specs.Watch.{HasSeen, NotesEnds, Passes, SeesMore, WatchView, end_of_kind, later_end}
+use Rattle.polyphase.specs.Poly.{Ends, HasSeen as HasSeenByPoly, Passes as PolyPasses, PolyView}
+use Rattle.polyphase.specs.Poly.{SeesMore as PolySeesMore, answer_of}
 use Rattle.polyphase.specs.PolyphaseEvent.{ChannelWindow, conditions}
 use Rattle.pq_words.specs.First.{first_between, first_of}
 use Rattle.pq_words.specs.Successors.{successors}
@@ -70,3 +71,22 @@ watch_more old mid new m answers ends more channels limits dip swell interruptio
           ∙ ap (λ n. end_at kind mid.poly.limits n) (sym channels)
           ∙ ap (λ (p : PolyView). end_at kind p.limits p.channels) (sym same);
     }
+
+-- no event, no later end
+same_later : (end : ℕ) → end ≡ later_end end None
+same_later end = omega arith
+
+notes_none : (w : WatchView) → NotesEnds w w (None ∷ None ∷ None ∷ [])
+notes_none w Dip = same_later w.dip
+notes_none w Swell = same_later w.swell
+notes_none w Interruption = same_later w.interruption
+
+-- the Poly took one more window that ends no event, and the greatest ends stay
+pub watch_passes : (old new : WatchView) (m : ChannelWindow) → PolyPasses old.poly new.poly m →
+    new.poly.channels ≡ old.poly.channels → new.poly.limits ≡ old.poly.limits →
+    new.dip ≡ old.dip → new.swell ≡ old.swell → new.interruption ≡ old.interruption → Passes old new m
+watch_passes old new m passed channels limits dip swell interruption = record {
+  ends = passed.ends;
+  sees = watch_more old new new m (None ∷ None ∷ None ∷ []) passed.ends passed.sees channels limits dip swell
+      interruption (notes_none new) refl;
+}

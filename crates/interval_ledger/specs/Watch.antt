@@ -1,12 +1,12 @@
 -- What contracts see of a watch: a Poly, and for each kind the greatest end of the events that it has ended.
-use Rattle.std.specs.Prelude.{◌≡◌, ℕ, Bool, max, List, [], ◌∷◌, ◌++◌, Option}
+use Rattle.std.specs.Prelude.{◌≡◌, ℕ, Bool, max, List, [], ◌∷◌, ◌++◌, Option, None}
 use Rattle.std.specs.List.{list_any}
 use Rattle.std.specs.Option.{option_map_or}
 use Rattle.event_detect.specs.declared.event.Event.{Event}
 use Rattle.event_detect.specs.declared.kind.Kind.{Kind}
 use Rattle.event_detect.specs.declared.kind.Kind.TheVariants.{Dip, Swell, Interruption}
 use Rattle.event_detect.specs.declared.limits.Limits.{Limits}
-use Rattle.polyphase.specs.Poly.{PolyView, HasSeen as HasSeenByPoly, answer_of}
+use Rattle.polyphase.specs.Poly.{PolyView, Ends, HasSeen as HasSeenByPoly, answer_of}
 use Rattle.polyphase.specs.PolyphaseEvent.{ChannelWindow, kinds}
 use Rattle.settled_laws.specs.Touch.{latest_end, touches_now}
 
@@ -30,6 +30,11 @@ pub record HasSeen (w : WatchView) (fed : List ChannelWindow) : Type 0 where
 -- whatever a watch had seen, it has now seen one more window
 abbrev pub SeesMore : WatchView → WatchView → ChannelWindow → Type 0
 SeesMore old new m = (fed : List ChannelWindow) → HasSeen old fed → HasSeen new (fed ++ m ∷ [])
+
+-- one more window ends no event, and has been seen
+pub record Passes (old new : WatchView) (m : ChannelWindow) : Type 0 where
+  pub ends : Ends old.poly m (None ∷ None ∷ None ∷ [])
+  pub sees : SeesMore old new m
 
 -- a watch for so many channels, with these thresholds
 pub record HasSetting (w : WatchView) (channels : ℕ) (limits : Limits) : Type 0 where

@@ -102,6 +102,9 @@ impl Known {
         ensures same { self.new.outbox.released ≡ self.old.outbox.released }
         ensures err { OnErr result (KeepsKnown self.old self.new) }
     {
+        if self.watch.pass(position, window) {
+            return Ok(());
+        }
         self.outbox.reserve(KINDS)?;
         let ended = self.watch.step(position, window);
         self.labels.push_events(&mut self.outbox, ended);

@@ -1,7 +1,8 @@
 // The events over the merged windows, as they are found.
-ghost use Rattle.std.specs.Prelude.{◌≡◌, ◌<◌, []};
+ghost use Rattle.std.specs.Prelude.{◌≡◌, ◌<◌, [], IsTrue, IsFalse};
 ghost use Rattle.event_detect.specs.Threshold.{IsInOrder};
-ghost use Rattle.interval_ledger.specs.Watch.{HasSeen, HasSetting, NotesEnds, SeesMore, TellsKind, TellsTouch, end_of_kind, later_end};
+ghost use Rattle.interval_ledger.specs.Watch.{HasSeen, HasSetting, NotesEnds, Passes, SeesMore};
+ghost use Rattle.interval_ledger.specs.Watch.{TellsKind, TellsTouch, end_of_kind, later_end};
 ghost use Rattle.polyphase.specs.Poly.{Ends, LeavesOpen, channel_window};
 ghost use Rattle.polyphase.specs.PolyphaseEvent.{IsChannelCount};
 
@@ -47,6 +48,17 @@ impl Watch {
             swell: 0,
             interruption: 0,
         }
+    }
+
+    // Feeds the next of the merged windows, of the channel at a position, where it is plain that it ends no
+    // event. Tells whether it is; else nothing is fed.
+    pub(crate) fn pass(&mut self, position: u32, window: Window) -> bool
+        requires { position < self.old.poly.channels }
+        ensures passed { IsTrue result → Passes self.old self.new (channel_window position window) }
+        ensures rest { IsFalse result → self.new ≡ self.old }
+        ensures setting { HasSetting self.new self.old.poly.channels self.old.poly.limits }
+    {
+        self.poly.pass(position, window)
     }
 
     // Feeds the next of the merged windows, of the channel at a position, and gives the events that it ends.
