@@ -107,7 +107,7 @@ impl Known {
         }
         self.outbox.reserve(KINDS)?;
         let ended = self.watch.step(position, window);
-        self.labels.push_events(&mut self.outbox, ended);
+        self.labels.push_events(&mut self.outbox, &ended);
         Ok(())
     }
 
@@ -171,7 +171,7 @@ impl Known {
     {
         self.outbox.reserve(KINDS)?;
         let left = self.watch.finish(n);
-        self.labels.push_events(&mut self.outbox, left);
+        self.labels.push_events(&mut self.outbox, &left);
         self.outbox.release(n, steps);
         Ok(())
     }

@@ -70,9 +70,9 @@ impl Labels {
     }
 
     // Adds the events that there are, of the kinds in order.
-    pub(crate) fn push_events(&self, outbox: &mut Outbox, events: [Option<Event>; 3])
+    pub(crate) fn push_events(&self, outbox: &mut Outbox, events: &[Option<Event>; 3])
         requires { 3 ≤ outbox.old.room }
-        ensures { Adds 3 outbox.old outbox.new (answered_items self.now.recording.value events) }
+        ensures { Adds 3 outbox.old outbox.new (answered_items self.now.recording.value events.now) }
     {
         let [dip, swell, interruption] = events;
         self.push_event(outbox, dip);
@@ -80,13 +80,13 @@ impl Labels {
         self.push_event(outbox, interruption);
     }
 
-    fn push_event(&self, outbox: &mut Outbox, event: Option<Event>)
+    fn push_event(&self, outbox: &mut Outbox, event: &Option<Event>)
         requires { 1 ≤ outbox.old.room }
         ensures { Adds 1 outbox.old outbox.new
-            (event_items self.now.recording.value (option_to_list event)) }
+            (event_items self.now.recording.value (option_to_list event.now)) }
     {
         if let Some(event) = event {
-            outbox.push(event_item(self.number(event.channel), &event));
+            outbox.push(event_item(self.number(event.channel), event));
         }
     }
 

@@ -69,13 +69,13 @@ impl Watch {
         ensures setting { HasSetting self.new self.old.poly.channels self.old.poly.limits }
     {
         let ended = self.poly.step(position, window);
-        self.note(ended);
+        self.note(&ended);
         ended
     }
 
     // Notes the ends of the events that a window ended, of the kinds in order.
-    fn note(&mut self, ended: [Option<Event>; 3])
-        ensures ends { NotesEnds self.old self.new ended }
+    fn note(&mut self, ended: &[Option<Event>; 3])
+        ensures ends { NotesEnds self.old self.new ended.now }
         ensures same { self.new.poly ≡ self.old.poly }
     {
         let [dip, swell, interruption] = ended;
@@ -121,8 +121,8 @@ impl Watch {
 }
 
 // The greater of an end and that of an event, if there is one.
-fn later(end: u64, event: Option<Event>) -> u64
-    ensures { result ≡ later_end end event }
+fn later(end: u64, event: &Option<Event>) -> u64
+    ensures { result ≡ later_end end event.now }
 {
     match event {
         Some(event) => end.max(event.end),
