@@ -100,7 +100,7 @@ module _ {P M : Type 0} {g : Ghosts Ledger Subject} (way : printer.Ghosts P M)
   )
   runs_to OutOfMemory n l h = (
     subst (λ x. PrintedPrefix way.printed (result_named x) r ⊎ BrokeInPrefix way.broke (result_named x) r) n
-    h.0,
+        h.0,
     h.1,
   )
 
