@@ -1,5 +1,5 @@
 -- What a session was given, and what is printed then.
-use Rattle.std.proofs.Common.{◌≡◌, ℕ, ◌+◌, ◌^◌, ◌<◌, ◌≤◌, suc, Bool, true, false, List, [], ◌∷◌, ◌++◌, length, take, slice_get, Some, refl, sym, ap, ◌∙◌, subst, arith, ◌⊎◌, inl, inr}
+use Rattle.std.proofs.Common.{◌≡◌, ℕ, ◌+◌, ◌≤◌, suc, Bool, false, List, [], ◌∷◌, ◌++◌, length, take, slice_get, Some, sym, ap, ◌∙◌, subst, arith, ◌⊎◌, inl, inr}
 use Rattle.std.specs.List as elements
 use Rattle.std.proofs.lemmas.List.{take_more}
 use Rattle.std.proofs.lemmas.Option.{get_or_from_slice_get, slice_get_within}
@@ -9,7 +9,7 @@ use Rattle.interval_ledger.specs.declared.subject.Subject.{Subject}
 use Rattle.lane_workers.specs.declared.printer.Printer as printer
 use Rattle.lane_workers.specs.declared.ran.Ran.{Ran}
 use Rattle.lane_workers.specs.declared.ran.Ran.TheVariants.{All, Failed, OutOfMemory}
-use Rattle.lane_workers.specs.Running.{BrokeInPrefix, HasRun, IsPrinting, PrintedPrefix, RunsTo, recording_of}
+use Rattle.lane_workers.specs.Running.{BrokeInPrefix, HasRun, IsPrinting, PrintedPrefix, RunsTo}
 use Rattle.pq_base.specs.Causes.{CountsOnce, Rose, count_after}
 use Rattle.pq_base.specs.Recorded.{Recorded, IsRecording}
 use Rattle.pq_items.specs.declared.item.Item as items
@@ -32,7 +32,7 @@ pub record Got {g : Ghosts Ledger Subject} (start old new : SessionOf Ledger g) 
   pub splits : (reader_of new.pass).splits ≡ (reader_of old.pass).splits
   pub wrote : (reader_of new.pass).wrote_stop ≡ (reader_of old.pass).wrote_stop
 
-result_named : Subject → List items.Item
+abbrev result_named : Subject → List items.Item
 result_named name = sequential name.recording name.limits
 
 pub got : {g : Ghosts Ledger Subject} (old new : SessionOf Ledger g) (x : items.Item) →
