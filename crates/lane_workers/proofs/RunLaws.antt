@@ -9,7 +9,7 @@ use Rattle.interval_ledger.specs.declared.subject.Subject.{Subject}
 use Rattle.lane_workers.specs.declared.printer.Printer as printer
 use Rattle.lane_workers.specs.declared.ran.Ran.{Ran}
 use Rattle.lane_workers.specs.declared.ran.Ran.TheVariants.{All, Failed, OutOfMemory}
-use Rattle.lane_workers.specs.Running.{BrokeInPrefix, HasRun, IsPrinting, PrintedPrefix, RunsTo}
+use Rattle.lane_workers.specs.Running.{BrokeInPrefix, IsAlone, HasRun, IsPrinting, PrintedPrefix, RunsTo}
 use Rattle.pq_base.specs.Causes.{CountsOnce, Rose, count_after}
 use Rattle.pq_base.specs.Recorded.{Recorded, IsRecording}
 use Rattle.pq_items.specs.declared.item.Item as items
@@ -25,31 +25,35 @@ use Rattle.query_session.specs.Session.{WaitAnswers, result_of, view_of}
 
 -- ---- what a session was given
 
--- an item at the cursor of the result that the session began with
-pub record Got {g : Ghosts Ledger Subject} (start old new : SessionOf Ledger g) (x : items.Item) : Type 0 where
-  pub item : slice_get (result_of start) old.cursor ≡ Some x
-  pub name : (view_of new).name ≡ (view_of start).name
-  pub splits : (reader_of new.pass).splits ≡ (reader_of old.pass).splits
-  pub wrote : (reader_of new.pass).wrote_stop ≡ (reader_of old.pass).wrote_stop
+-- the item at the cursor, after calls that read no item
+pub record Got {g : Ghosts Ledger Subject} (old new : SessionOf Ledger g) (x : items.Item) : Type 0 where
+  pub item : slice_get (result_of old) old.cursor ≡ Some x
+  pub name : (view_of new).name ≡ (view_of old).name
+  pub alone : IsAlone old → IsAlone new
 
 abbrev result_named : Subject → List items.Item
 result_named name = sequential name.recording name.limits
 
 pub got : {g : Ghosts Ledger Subject} (old new : SessionOf Ledger g) (x : items.Item) →
-    WaitAnswers old new (Item x) → Got old old new x
+    WaitAnswers old new (Item x) → Got old new x
 got {g} old new x w = let t = w.answers.0 in let b = w.before in record {
   item = subst (λ k. slice_get (result_of old) k ≡ Some x) b.cursor
       (ap (λ n. slice_get (result_named n) w.last.cursor) (sym b.name) ∙ w.answers.1);
   name = t.name ∙ b.name;
-  splits = t.loaded.splits ∙ b.splits;
-  wrote = t.loaded.wrote ∙ b.wrote;
+  alone = λ h. (t.loaded.splits ∙ (b.splits ∙ h.0), t.loaded.wrote ∙ (b.wrote ∙ h.1));
 }
 
 -- the front after the item at its end
-pub take_next : {A : Type 0} (xs : List A) (k : ℕ) (x : A) → slice_get xs k ≡ Some x →
+take_next : {A : Type 0} (xs : List A) (k : ℕ) (x : A) → slice_get xs k ≡ Some x →
     take k xs ++ x ∷ [] ≡ take (k + 1) xs
 take_next xs k x e = ap (λ y. take k xs ++ y ∷ []) (sym (get_or_from_slice_get xs k x x e))
     ∙ sym (take_more xs k x (slice_get_within xs k x e))
+
+-- what holds of the front with the item after it holds of the front that is one longer
+pub one_longer : {g : Ghosts Ledger Subject} (old new : SessionOf Ledger g) (x : items.Item)
+    (F : List items.Item → Type 0) → Got old new x → F (take old.cursor (result_of old) ++ x ∷ []) →
+    F (take (old.cursor + 1) (result_of old))
+one_longer {g} old new x F t h = subst F (take_next (result_of old) old.cursor x t.item) h
 
 -- an item of the result of a recording is in range
 pub in_range : (r : Recorded) (limits : Limits) (k : ℕ) (x : items.Item) → IsRecording r →

@@ -1,6 +1,6 @@
 -- What contracts see of a run: what its session was given, what its printer printed, and how it ends. All of
 -- it is profile.
-use Rattle.std.specs.Prelude.{◌≡◌, ℕ, ◌≤◌, ◌⊎◌, Bool, true, false, List, [], length, take, All, Option, Some, None}
+use Rattle.std.specs.Prelude.{◌≡◌, ℕ, ◌≤◌, ◌⊎◌, Bool, true, false, List, [], length, take, Option, Some, None}
 use Rattle.interval_ledger.specs.declared.ledger.Ledger.{Ledger}
 use Rattle.interval_ledger.specs.declared.subject.Subject.{Subject}
 use Rattle.lane_workers.specs.declared.printer.Printer as printer
@@ -13,18 +13,12 @@ use Rattle.progress_words.specs.declared.shared.Shared.{Ghosts}
 use Rattle.progress_words.specs.PassView.{IsAlone as IsReaderAlone}
 use Rattle.progress_words.specs.Words.{reader_of}
 use Rattle.query_session.specs.declared.chain.ChainOf.{ChainOf}
-use Rattle.query_session.specs.declared.seat.SeatOf.{SeatOf}
 use Rattle.query_session.specs.declared.session.SessionOf.{SessionOf}
-use Rattle.query_session.specs.LaneSeat.{IsSeatIdle, IsSeatOf}
 use Rattle.query_session.specs.Session.{AreWords, IsIdle, IsSessionOf, result_of, samples_of, view_of}
 
--- ---- sessions and seats
+-- ---- sessions
 
 module _ {g : Ghosts Ledger Subject} where
-  -- the seats are of the chain, and idle
-  abbrev pub AreReady : ChainOf Ledger Subject → List (SeatOf Ledger g) → Type 0
-  AreReady chain seats = All (λ s. IsSeatOf chain s × IsSeatIdle s) seats
-
   -- the recording of a session
   abbrev pub recording_of : SessionOf Ledger g → Recorded
   recording_of s = (view_of s).name.recording

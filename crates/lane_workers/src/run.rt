@@ -1,7 +1,8 @@
 // A run: one worker for each lane in a scope, beside the caller, which prints.
 ghost use Rattle.std.specs.Prelude.{◌≡◌, []};
-ghost use Rattle.lane_workers.specs.Running.{AreReady, CanPrint, HasPrinted, HasRun, IsAlone, recording_of};
+ghost use Rattle.lane_workers.specs.Running.{CanPrint, HasPrinted, HasRun, IsAlone, recording_of};
 ghost use Rattle.pq_base.specs.Recorded.{IsRecording};
+ghost use Rattle.query_session.specs.Chain.{AreReady};
 ghost use Rattle.query_session.specs.Session.{IsIdle, IsSessionOf};
 
 use crate::beside::{Task, run_beside};

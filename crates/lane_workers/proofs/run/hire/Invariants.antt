@@ -1,5 +1,5 @@
 use Rattle.std.specs.Vec.Iter.{into_iter_items}
-use Rattle.lane_workers.specs.Running.{AreReady}
+use Rattle.query_session.specs.Chain.{AreReady}
 use Rattle.lane_workers.proofs.run.hire.Given as goal
 
 -- the seats that are left are of the chain, and idle
