@@ -1,11 +1,12 @@
 -- What contracts see of a reader of a dat, and what it means that it was fed these bytes.
-use Rattle.std.specs.Prelude.{◌≡◌, ◌++◌, map}
+use Rattle.std.specs.Prelude.{◌≡◌, ◌++◌, map, Some}
 use Rattle.comtrade_cfg.specs.CfgText.{IsConfiguration}
 use Rattle.comtrade_cfg.specs.Configuration.{Configuration}
 use Rattle.comtrade_cfg.specs.Selecting.{IsSelected, Selected}
 use Rattle.comtrade_dat.specs.Channel.{unread}
 use Rattle.comtrade_dat.specs.Progress.{IsFed, IsWhole}
 use Rattle.comtrade_dat.specs.Samples.{record_size}
+use Rattle.comtrade_dat.specs.declared.dat_fault.DatFault.TheVariants as fault
 use Rattle.comtrade_dat.specs.declared.decoded.Decoded.{Decoded}
 use Rattle.comtrade_dat.specs.declared.progress.Progress.{Progress}
 use Rattle.pq_words.specs.Text.{Text}
@@ -26,6 +27,10 @@ pub record HasRead (c : Configuration) (s : Selected) (fed : Text) (r : DatReadi
 abbrev pub FeedsOn : DatReading → Text → DatReading → Type 0
 FeedsOn old piece new =
     (c : Configuration) (s : Selected) (fed : Text) → HasRead c s fed old → HasRead c s (fed ++ piece) new
+
+-- there was no memory for what it was fed
+abbrev pub HasNoMemory : DatReading → Type 0
+HasNoMemory r = r.progress.fault ≡ Some fault.OutOfMemory
 
 -- these records are all of these bytes
 abbrev pub IsWholeOf : Configuration → Selected → Decoded → Text → Type 0

@@ -4,7 +4,7 @@ ghost use Rattle.cfg_fields.specs.declared.limits.TheConstants.{MOST_CHANNELS};
 ghost use Rattle.comtrade_cfg.specs.CfgText.{IsConfiguration};
 ghost use Rattle.comtrade_cfg.specs.Configuration.{Configuration, cfg_view};
 ghost use Rattle.comtrade_cfg.specs.Selecting.{IsSelected, Selected, selection_view};
-ghost use Rattle.comtrade_dat.specs.DatReader.{FeedsOn, HasRead, IsOfWhole, IsWholeOf};
+ghost use Rattle.comtrade_dat.specs.DatReader.{FeedsOn, HasNoMemory, HasRead, IsOfWhole, IsWholeOf};
 ghost use Rattle.comtrade_dat.specs.Samples.{Gives, record_size, samples_of};
 ghost use Rattle.comtrade_dat.specs.declared.dat_fault.DatFault.TheVariants as fault;
 ghost use Rattle.pq_words.specs.Text.{Text};
@@ -86,7 +86,8 @@ impl<'c> DatReader<'c> {
     ///
     /// [`OutOfMemory`] where there was no memory, now or at an earlier piece: `finish` says so too.
     pub fn feed(&mut self, piece: &[u8]) -> Result<(), OutOfMemory>
-        ensures { FeedsOn self.old piece.now self.new }
+        ensures fed { FeedsOn self.old piece.now self.new }
+        ensures told { OnErr result (HasNoMemory self.new) }
     {
         let size = record_size(self.cfg);
         let n = self.cfg.endsamp as usize;
@@ -100,8 +101,9 @@ impl<'c> DatReader<'c> {
     ///
     /// As of [`read_dat`](crate::read_dat).
     pub fn finish(self, alloc: Global) -> Result<Recording, DatFault>
-        ensures { (c : Configuration) (s : Selected) (fed : Text) → HasRead c s fed self.entry →
+        ensures value { (c : Configuration) (s : Selected) (fed : Text) → HasRead c s fed self.entry →
             Gives result (samples_of c s fed) }
+        ensures memory { HasNoMemory self.entry → IsErrOf result fault.OutOfMemory }
     {
         let cfg = self.cfg;
         let selection = self.selection;

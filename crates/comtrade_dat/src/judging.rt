@@ -57,7 +57,7 @@ fn judge_bytes(
     at: u64,
     bytes: &[u8],
 ) -> Result<(), DatFault>
-    requires number { 4 ≤ length bytes.now }
+    requires least { 10 ≤ length bytes.now }
     requires room { All (λ p. 10 + 2 * p ≤ length bytes.now) positions.now }
     requires small { length bytes.now < 2 ^ 16 }
     ensures { result ≡ judged_bytes positions.now before at bytes.now }

@@ -1,7 +1,8 @@
 // How far a dat is read that comes in pieces.
-ghost use Rattle.std.specs.Prelude.{◌≡◌, ◌+◌, ◌^◌, ◌<◌, ◌≤◌, [], OnOk, length};
+ghost use Rattle.std.specs.Prelude.{◌≡◌, ◌+◌, ◌^◌, ◌<◌, ◌≤◌, [], IsErrOf, OnErr, OnOk, Some, length};
 ghost use Rattle.comtrade_dat.specs.Channel.{IsLayout, judged_count};
 ghost use Rattle.comtrade_dat.specs.Progress.{EndsAll, GoesOnWith, IsFedOn, IsGoing, IsInShape, WasFed};
+ghost use Rattle.comtrade_dat.specs.declared.dat_fault.DatFault.TheVariants as fault;
 ghost use Rattle.pq_words.specs.declared.limits.TheConstants.{MOST_SAMPLES};
 
 use crate::dat_fault::DatFault;
@@ -29,7 +30,8 @@ impl Progress {
         requires layout { IsLayout size positions.now }
         requires few { n ≤ MOST_SAMPLES }
         requires fed { WasFed size positions.now n self.old }
-        ensures { IsFedOn size positions.now n self.old piece.now self.new }
+        ensures fed { IsFedOn size positions.now n self.old piece.now self.new }
+        ensures told { OnErr result (self.new.fault ≡ Some fault.OutOfMemory) }
     {
         if let Some(fault) = self.fault {
             return want_of_memory(fault);
@@ -150,7 +152,8 @@ impl Progress {
         requires some { 0 < size }
         requires small { size < 2 ^ 16 }
         requires few { n ≤ MOST_SAMPLES }
-        ensures { EndsAll size n self result }
+        ensures value { EndsAll size n self result }
+        ensures memory { self.fault ≡ Some fault.OutOfMemory → IsErrOf result fault.OutOfMemory }
     {
         if let Some(fault) = self.fault {
             return Err(fault);
@@ -161,8 +164,10 @@ impl Progress {
 }
 
 // A fault is kept until the end, but for want of memory, which is told at once.
-fn want_of_memory(fault: DatFault) -> Result<(), OutOfMemory> {
-    match fault {
+fn want_of_memory(found: DatFault) -> Result<(), OutOfMemory>
+    ensures { OnErr result (found ≡ fault.OutOfMemory) }
+{
+    match found {
         DatFault::OutOfMemory => Err(OutOfMemory),
         _ => Ok(()),
     }

@@ -9,6 +9,6 @@ returns c =
     let cfg = cfg_view c.args.cfg.now in
     let selected = selection_view c.args.selection.now in
     record {
-      value = c.finish.ensures cfg selected c.args.bytes.now
-          (c.feed.ensures cfg selected [] c.in_ok-reader.ensures.fed);
+      value = c.finish.ensures.value cfg selected c.args.bytes.now
+          (c.feed.ensures.fed cfg selected [] c.in_ok-reader.ensures.fed);
     }

@@ -32,12 +32,12 @@ invariant_of-self c =
       fed = c.self.invariant.fed ++ c.args.piece.now;
       read = fed_on cfg selected c.record_size-size.result c.as_slice.result.now c.self.inside.progress
           c.feed.new.self c.args.piece.now c.record_size-size.ensures.value c.as_slice.ensures.value
-          c.feed.ensures cfg selected c.self.invariant.fed c.self.invariant.read;
+          c.feed.ensures.fed cfg selected c.self.invariant.fed c.self.invariant.read;
     }
 
-pub returns : goal.returns
-returns c = λ cfg s fed h.
+pub returns-clause-fed : goal.returns-clause-fed
+returns-clause-fed c = λ cfg s fed h.
     fed_on (cfg_view c.self.inside.cfg.now) (selection_view c.self.inside.selection.now)
     c.record_size-size.result c.as_slice.result.now c.self.inside.progress c.feed.new.self c.args.piece.now
-    c.record_size-size.ensures.value c.as_slice.ensures.value c.feed.ensures cfg s fed
+    c.record_size-size.ensures.value c.as_slice.ensures.value c.feed.ensures.fed cfg s fed
     (subst (HasRead cfg s fed) (sym c.self.view_is) h)

@@ -11,12 +11,12 @@ pub end-requires-clause-few : goal.end-requires-clause-few
 end-requires-clause-few c =
     (configuration_bounded (cfg_view c.self.inside.cfg.now) c.self.invariant.said).endsamp
 
-pub returns-in_err-decoded : goal.returns-in_err-decoded
-returns-in_err-decoded c = λ cfg s fed h.
+pub returns-in_err-decoded-clause-value : goal.returns-in_err-decoded-clause-value
+returns-in_err-decoded-clause-value c = λ cfg s fed h.
     let e = c.in_err-decoded.field-0.0 in
     refused_dat cfg s fed c.from_residual.result e c.from_residual.ensures.1
     (reader_ends (cfg_view c.self.inside.cfg.now) (selection_view c.self.inside.selection.now)
-    c.record_size.result c.self.inside.progress (Err e) c.record_size.ensures.value c.in_err-decoded.ensures cfg s
+    c.record_size.result c.self.inside.progress (Err e) c.record_size.ensures.value c.in_err-decoded.ensures.value cfg s
     fed (subst (HasRead cfg s fed) (sym c.self.view_is) h))
 
 pub recording-requires-clause-whole : goal.recording-requires-clause-whole
@@ -25,13 +25,13 @@ recording-requires-clause-whole c =
     let selected = selection_view c.self.inside.selection.now in (
       c.self.invariant.fed,
       reader_ends cfg selected c.record_size.result c.self.inside.progress (Ok c.in_ok-decoded.decoded)
-          c.record_size.ensures.value c.in_ok-decoded.ensures cfg selected c.self.invariant.fed
+          c.record_size.ensures.value c.in_ok-decoded.ensures.value cfg selected c.self.invariant.fed
           c.self.invariant.read,
     )
 
 -- the same of whatever it was fed
-pub returns : goal.returns
-returns c = λ cfg s fed h.
+pub returns-clause-value : goal.returns-clause-value
+returns-clause-value c = λ cfg s fed h.
     let said = cfg_view c.self.inside.cfg.now in
     let chosen = selection_view c.self.inside.selection.now in
     let progress = c.self.inside.progress in
@@ -42,6 +42,6 @@ returns c = λ cfg s fed h.
     (subst (λ (s : Selected). HasRead cfg s fed r) (sym here.selected) here) in
     let gives : Gives c.recording.result (samples_of said chosen fed) =
     c.recording.ensures fed (reader_ends said chosen c.record_size.result progress (Ok c.in_ok-decoded.decoded)
-    c.record_size.ensures.value c.in_ok-decoded.ensures said chosen fed own) in
+    c.record_size.ensures.value c.in_ok-decoded.ensures.value said chosen fed own) in
     subst (λ (c2 : Configuration). Gives c.recording.result (samples_of c2 s fed)) here.configuration
     (subst (λ (s2 : Selected). Gives c.recording.result (samples_of said s2 fed)) here.selected gives)

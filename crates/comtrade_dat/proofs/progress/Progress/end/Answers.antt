@@ -6,14 +6,14 @@ use Rattle.comtrade_dat.specs.Progress.{IsCounted, IsFedWith}
 use Rattle.comtrade_dat.proofs.progress.Progress.end.Goals as goal
 
 -- a record was at fault, or there was no memory
-pub returns-in-Some : goal.returns-in-Some
-returns-in-Some c = λ positions unread fed h.
+pub returns-in-Some-clause-value : goal.returns-in-Some-clause-value
+returns-in-Some-clause-value c = λ positions unread fed h.
     fault_decides c.args.size positions c.args.n fed c.in-Some.fault
     (subst (IsFedWith c.args.size positions c.args.n unread c.args.self fed) c.in-Some.is h)
 
 -- not all records are there, or bytes are left
-pub returns-in_err-judge_end : goal.returns-in_err-judge_end
-returns-in_err-judge_end c = λ positions unread fed h.
+pub returns-in_err-judge_end-clause-value : goal.returns-in_err-judge_end-clause-value
+returns-in_err-judge_end-clause-value c = λ positions unread fed h.
     let counted : IsCounted c.args.size positions c.args.n unread c.args.self fed =
     subst (IsFedWith c.args.size positions c.args.n unread c.args.self fed) c.in_default.is h in
     ended c.args.size positions c.args.n unread fed c.from_residual.result c.in_err-judge_end.field-0.0
@@ -22,8 +22,8 @@ returns-in_err-judge_end c = λ positions unread fed h.
     ∙ (sym c.judge_end.ensures ∙ c.in_err-judge_end.was)))
 
 -- all is good
-pub returns : goal.returns
-returns c = λ positions unread fed h.
+pub returns-clause-value : goal.returns-clause-value
+returns-clause-value c = λ positions unread fed h.
     let counted : IsCounted c.args.size positions c.args.n unread c.args.self fed =
     subst (IsFedWith c.args.size positions c.args.n unread c.args.self fed) c.in_default.is h in
     let good : judged_count c.args.size c.args.self.decoded.next.index c.args.self.bytes c.args.n ≡ Ok (tt {0}) =

@@ -5,8 +5,8 @@ use Rattle.comtrade_dat.specs.Progress.{IsCounted, IsFedWith}
 use Rattle.comtrade_dat.proofs.progress.Progress.feed.Goals as goal
 
 -- a fault stays
-pub returns-in-Some : goal.returns-in-Some
-returns-in-Some c = λ unread fed h.
+pub returns-in-Some-clause-fed : goal.returns-in-Some-clause-fed
+returns-in-Some-clause-fed c = λ unread fed h.
     let size = c.args.size in
     let positions = c.args.positions.now in
     let n = c.args.n in
@@ -17,8 +17,8 @@ returns-in-Some c = λ unread fed h.
     (subst (IsFedWith size positions n unread p fed) c.in-Some.is h))
 
 -- good bytes go on
-pub returns-in-Ok : goal.returns-in-Ok
-returns-in-Ok c = λ unread fed h.
+pub returns-in-Ok-clause-fed : goal.returns-in-Ok-clause-fed
+returns-in-Ok-clause-fed c = λ unread fed h.
     let size = c.args.size in
     let positions = c.args.positions.now in
     let n = c.args.n in
