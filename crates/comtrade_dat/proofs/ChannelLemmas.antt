@@ -8,9 +8,11 @@ use Rattle.std.proofs.lemmas.List.FromFn.{get_or-map-range_with_len, length-map-
 use Rattle.std.specs.List.{All, range_with_len}
 use Rattle.comtrade_dat.specs.BinaryRecord.{count_in, number_in, record_at}
 use Rattle.comtrade_dat.specs.Channel.{ChannelRead, HasCounts, read_on}
-use Rattle.comtrade_dat.specs.Samples.{first_fault, is_missing, is_numbered, is_whole, judged_record, judged_records, none_missing, sample_at}
+use Rattle.comtrade_dat.specs.Run.{is_numbered_after, judged_bytes, judged_in, judged_run, number_before}
+use Rattle.comtrade_dat.specs.Samples.{first_fault, is_missing, none_missing, sample_at}
 use Rattle.comtrade_dat.specs.declared.dat_fault.DatFault.{DatFault}
 use Rattle.comtrade_dat.specs.declared.dat_fault.DatFault.TheVariants as fault
+use Rattle.comtrade_dat.specs.declared.run_start.RunStart.{RunStart}
 use Rattle.comtrade_dat.specs.declared.limits.TheConstants.{MISSING_COUNT}
 use Rattle.pq_words.proofs.ReadingLemmas.{bind_ok}
 use Rattle.pq_words.specs.FirstFault.{provided}
@@ -19,7 +21,7 @@ use Rattle.pq_words.specs.Text.{Text}
 -- ---- channels
 
 -- what a function gives of numbers, and of those after them
-ranges_joined : {X : Type 0} (f : ℕ → X) (low m n : ℕ) →
+pub ranges_joined : {X : Type 0} (f : ℕ → X) (low m n : ℕ) →
     map f (range_with_len low m) ++ map f (range_with_len (low + m) n) ≡ map f (range_with_len low (m + n))
 ranges_joined f low zero n =
     let same : low + 0 ≡ low = omega arith in
@@ -99,15 +101,13 @@ each_good (Ok found ∷ more) (suc i) below good =
 each_good (Err found ∷ more) i below good = absurd cc
 
 -- a record before the end of good ones is good
-good_record : (size : ℕ) (positions : List ℕ) (dat : Text) (n index : ℕ) → index < n →
-    first_fault (judged_records size positions dat n) ≡ Ok (tt {0}) →
-    judged_record size positions dat index ≡ Ok (tt {0})
-good_record size positions dat n index below good =
-    let judged = judged_record size positions dat in
-    let inside : index < length (judged_records size positions dat n) =
+good_record : (judged : ℕ → Result (Unit {0}) DatFault) (n index : ℕ) → index < n →
+    first_fault (map judged (range_with_len 0 n)) ≡ Ok (tt {0}) → judged index ≡ Ok (tt {0})
+good_record judged n index below good =
+    let inside : index < length (map judged (range_with_len 0 n)) =
     omega (arith, below, length-map-range_with_len judged 0 n) in
     sym (get_or-map-range_with_len judged 0 n index index (Ok (tt {0})) below (omega arith))
-    ∙ each_good (judged_records size positions dat n) index inside good
+    ∙ each_good (map judged (range_with_len 0 n)) index inside good
 
 none_is_missing : (at : ℕ) (found : Option ℕ) → none_missing at found ≡ Ok (tt {0}) → found ≡ None
 none_is_missing at None good = refl
@@ -126,26 +126,25 @@ none_passes p (x ∷ xs) none =
     All-cons (λ x. p x ≡ false) x xs later.0 (none_passes p xs later.1)
 
 -- a good record has a count at each of the positions
-counts_of_record : (size : ℕ) (positions : List ℕ) (dat : Text) (index : ℕ) →
-    judged_record size positions dat index ≡ Ok (tt {0}) →
-    All (λ position. count_in (record_at size dat index) position ≢ MISSING_COUNT) positions
-counts_of_record size positions dat index good =
-    let bytes = record_at size dat index in
-    let there = bind_ok (provided (is_whole size dat index) (fault.Short (index + 1)) (tt {0})) _ (tt {0})
-    good in
-    let numbered = bind_ok (provided (is_numbered size dat index) (fault.Number (index + 1) (number_in bytes))
-    (tt {0}))
-    _ (tt {0}) there.2 in
-    let none = none_is_missing (index + 1) (find (is_missing bytes) positions) numbered.2 in
+counts_of_bytes : (positions : List ℕ) (before : Option ℕ) (at : ℕ) (bytes : Text) →
+    judged_bytes positions before at bytes ≡ Ok (tt {0}) →
+    All (λ position. count_in bytes position ≢ MISSING_COUNT) positions
+counts_of_bytes positions before at bytes good =
+    let numbered = bind_ok
+    (provided (is_numbered_after before (number_in bytes)) (fault.Number at (number_in bytes)) (tt {0})) _
+    (tt {0}) good in
+    let none = none_is_missing at (find (is_missing bytes) positions) numbered.2 in
     All-weaker (λ position. is_missing bytes position ≡ false)
     (λ position. count_in bytes position ≢ MISSING_COUNT)
     (λ position there. not_from_Decides (is_missing bytes position)
     (Decides-int_eq (count_in bytes position) MISSING_COUNT) there)
     positions (none_passes (is_missing bytes) positions none)
 
--- so each of n good records has a count at each of the positions
-pub counts_of_good : (size : ℕ) (positions : List ℕ) (dat : Text) (n : ℕ) →
-    first_fault (judged_records size positions dat n) ≡ Ok (tt {0}) → All (HasCounts size dat n) positions
-counts_of_good size positions dat n good = λ k d inside index below.
-    All-get_or (λ position. count_in (record_at size dat index) position ≢ MISSING_COUNT) positions k d inside
-    (counts_of_record size positions dat index (good_record size positions dat n index below good))
+-- so each of n good records of a run has a count at each of the positions
+pub counts_of_good : (size : ℕ) (positions : List ℕ) (start : RunStart) (run : Text) (n : ℕ) →
+    first_fault (judged_run size positions start run n) ≡ Ok (tt {0}) →
+    All (HasCounts size run n) positions
+counts_of_good size positions start run n good = λ k d inside index below.
+    All-get_or (λ position. count_in (record_at size run index) position ≢ MISSING_COUNT) positions k d inside
+    (counts_of_bytes positions (number_before size start.before run index) (start.index + index + 1)
+    (record_at size run index) (good_record (judged_in size positions start run) n index below good))

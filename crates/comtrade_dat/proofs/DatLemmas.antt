@@ -12,7 +12,8 @@ use Rattle.comtrade_cfg.proofs.SelectionLaws.{selection_good}
 use Rattle.comtrade_cfg.specs.Selecting.{coefficients_at}
 use Rattle.comtrade_cfg.specs.declared.voltage.Coefficients.{Coefficients}
 use Rattle.comtrade_dat.proofs.ReadBackLemmas.{count_read, length_parts, length_record, number_read, record_placed}
-use Rattle.comtrade_dat.proofs.RecordingLemmas.{alone, at_least, recording_of_good, with_samples}
+use Rattle.comtrade_dat.proofs.JudgingLemmas.{alone}
+use Rattle.comtrade_dat.proofs.RecordingLemmas.{at_least, recording_of_good, with_samples}
 use Rattle.comtrade_dat.specs.BinaryRecord.{RecordFields, bytes_of, count_in, number_in, record_at, size_with, words_for}
 use Rattle.comtrade_dat.specs.ReadBack.{AreGood, DatsReadBack, HasShape, count_of, dat_of, samples_from}
 use Rattle.comtrade_dat.specs.Samples.{channel_samples, first_fault, is_missing, is_numbered, is_whole, judged_dat, judged_end, judged_record, none_missing, sample_at}

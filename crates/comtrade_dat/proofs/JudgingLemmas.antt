@@ -1,11 +1,11 @@
 -- Records judged one after another, and the first fault.
-use Rattle.std.proofs.Common.{◌≡◌, ◌∙◌, ℕ, zero, suc, ◌+◌, ◌-◌, ◌*◌, ◌≤◌, List, [], ◌∷◌, ◌++◌, refl, ap, subst, arith, Result, Ok, Err}
+use Rattle.std.proofs.Common.{◌≡◌, ◌∙◌, ℕ, zero, suc, ◌+◌, ◌-◌, ◌*◌, ◌≤◌, List, [], ◌∷◌, ◌++◌, map, refl, ap, subst, arith, Result, Ok, Err}
 use Rattle.std.proofs.lemmas.List.FromFn.{map-range_with_len_more}
 use Rattle.std.proofs.lemmas.Nat.{mul-le}
-use Rattle.comtrade_dat.specs.Samples.{first_fault, judged_record, judged_records}
+use Rattle.std.specs.List.{range_with_len}
+use Rattle.comtrade_dat.specs.Samples.{first_fault}
 use Rattle.comtrade_dat.specs.declared.dat_fault.DatFault.{DatFault}
 use Rattle.pq_words.specs.FirstFault.{◌>>=◌}
-use Rattle.pq_words.specs.Text.{Text}
 
 -- those after the first judgements count only where these found none
 pub first_fault-append : (front back : List (Result (Unit {0}) DatFault)) →
@@ -27,42 +27,40 @@ pub first_fault_stays : (front back : List (Result (Unit {0}) DatFault)) (e : Da
 first_fault_stays front back e found = first_fault-append front back
     ∙ ap (λ r. r >>= (λ good. first_fault back)) found
 
-alone : (judged : Result (Unit {0}) DatFault) → first_fault (judged ∷ []) ≡ judged
+pub alone : (judged : Result (Unit {0}) DatFault) → first_fault (judged ∷ []) ≡ judged
 alone (Ok good) = refl
 alone (Err found) = refl
 
 -- one more record, after good ones
-pub judged_next : (size : ℕ) (positions : List ℕ) (dat : Text) (n : ℕ) →
-    first_fault (judged_records size positions dat n) ≡ Ok (tt {0}) →
-    first_fault (judged_records size positions dat (n + 1)) ≡ judged_record size positions dat n
-judged_next size positions dat n good =
-    let judged = judged_record size positions dat in
+pub judged_next : (judged : ℕ → Result (Unit {0}) DatFault) (n : ℕ) →
+    first_fault (map judged (range_with_len 0 n)) ≡ Ok (tt {0}) →
+    first_fault (map judged (range_with_len 0 (n + 1))) ≡ judged n
+judged_next judged n good =
     ap first_fault (map-range_with_len_more judged 0 n n (omega arith))
-    ∙ (first_fault_after (judged_records size positions dat n) (judged n ∷ []) good ∙ alone (judged n))
+    ∙ (first_fault_after (map judged (range_with_len 0 n)) (judged n ∷ []) good ∙ alone (judged n))
 
 -- a fault among the first k is that of the first k + more
-fault_among_more : (size : ℕ) (positions : List ℕ) (dat : Text) (e : DatFault) (k more : ℕ) →
-    first_fault (judged_records size positions dat k) ≡ Err e →
-    first_fault (judged_records size positions dat (k + more)) ≡ Err e
-fault_among_more size positions dat e k zero found =
+fault_among_more : (judged : ℕ → Result (Unit {0}) DatFault) (e : DatFault) (k more : ℕ) →
+    first_fault (map judged (range_with_len 0 k)) ≡ Err e →
+    first_fault (map judged (range_with_len 0 (k + more))) ≡ Err e
+fault_among_more judged e k zero found =
     let same : k ≡ k + 0 = omega arith in
-    subst (λ n. first_fault (judged_records size positions dat n) ≡ Err e) same found
-fault_among_more size positions dat e k (suc more) found =
-    let judged = judged_record size positions dat in
+    subst (λ n. first_fault (map judged (range_with_len 0 n)) ≡ Err e) same found
+fault_among_more judged e k (suc more) found =
     let same : k + more + 1 ≡ k + suc more = omega arith in
-    subst (λ n. first_fault (judged_records size positions dat n) ≡ Err e) same
+    subst (λ n. first_fault (map judged (range_with_len 0 n)) ≡ Err e) same
     (ap first_fault (map-range_with_len_more judged 0 (k + more) (k + more) (omega arith))
-    ∙ first_fault_stays (judged_records size positions dat (k + more)) (judged (k + more) ∷ []) e
-    (fault_among_more size positions dat e k more found))
+    ∙ first_fault_stays (map judged (range_with_len 0 (k + more))) (judged (k + more) ∷ []) e
+    (fault_among_more judged e k more found))
 
 -- the same of any number of records from k on
-pub fault_among : (size : ℕ) (positions : List ℕ) (dat : Text) (e : DatFault) (k n : ℕ) → k ≤ n →
-    first_fault (judged_records size positions dat k) ≡ Err e →
-    first_fault (judged_records size positions dat n) ≡ Err e
-fault_among size positions dat e k n below found =
+pub fault_among : (judged : ℕ → Result (Unit {0}) DatFault) (e : DatFault) (k n : ℕ) → k ≤ n →
+    first_fault (map judged (range_with_len 0 k)) ≡ Err e →
+    first_fault (map judged (range_with_len 0 n)) ≡ Err e
+fault_among judged e k n below found =
     let same : k + (n - k) ≡ n = omega (arith, below) in
-    subst (λ n. first_fault (judged_records size positions dat n) ≡ Err e) same
-    (fault_among_more size positions dat e k (n - k) found)
+    subst (λ n. first_fault (map judged (range_with_len 0 n)) ≡ Err e) same
+    (fault_among_more judged e k (n - k) found)
 
 -- records before the end of whole ones are whole
 pub whole_before : (size n end bytes : ℕ) → n ≤ end → size * end ≤ bytes → size * n ≤ bytes

@@ -2,7 +2,10 @@ pub mod ChannelLemmas
 pub mod DatLemmas
 pub mod FaultLemmas
 pub mod JudgingLemmas
+pub mod ProgressLemmas
 pub mod ReadBackLemmas
+pub mod ReaderLemmas
 pub mod RecordingLemmas
+pub mod RunLemmas
 pub mod SampleLemmas
 pub mod StandardFacts

@@ -1,6 +1,7 @@
 -- The recording that a dat makes: that it is one, and what decides where there is none.
-use Rattle.std.proofs.Common.{◌≡◌, ◌⊎◌, inl, inr, ◌∙◌, ℕ, ◌+◌, ◌-◌, ◌*◌, ◌/◌, ◌%◌, ◌<◌, ◌≤◌, Bool, true, false, List, [], ◌∷◌, length, get_or, map, min, nat_le, refl, ap, sym, subst, arith, Result, Ok, Err, ℤ}
+use Rattle.std.proofs.Common.{◌≡◌, inl, inr, ◌∙◌, ℕ, ◌+◌, ◌-◌, ◌*◌, ◌/◌, ◌%◌, ◌<◌, ◌≤◌, Bool, true, false, List, [], ◌∷◌, length, get_or, map, nat_le, refl, ap, sym, subst, arith, Ok, Err, ℤ}
 use Rattle.std.proofs.lemmas.Nat.{mod_below}
+use Rattle.std.proofs.lemmas.Bool.{cases_lt}
 use Rattle.std.proofs.lemmas.Bool.Decides.{nat_tests}
 use Rattle.std.proofs.lemmas.List.{get_or-map, length-map}
 use Rattle.std.proofs.lemmas.List.Elements.{All-map}
@@ -10,9 +11,9 @@ use Rattle.std.specs.List.Sorted.{IsStrictlyIncreasing}
 use Rattle.comtrade_cfg.specs.Bounds.{IsBounded}
 use Rattle.comtrade_cfg.specs.Configuration.{Configuration}
 use Rattle.comtrade_cfg.specs.Selecting.{Selected}
-use Rattle.comtrade_dat.proofs.JudgingLemmas.{fault_among, first_fault_after, first_fault_stays, judged_next}
+use Rattle.comtrade_dat.proofs.JudgingLemmas.{alone, fault_among, first_fault_after, first_fault_stays, judged_next}
 use Rattle.comtrade_cfg.specs.Selecting.{IsGoodSelection, coefficients_at}
-use Rattle.comtrade_dat.specs.Channel.{ChannelRead, judged_rest, read_on, unread}
+use Rattle.comtrade_dat.specs.Channel.{ChannelRead, all_samples, judged_count, read_on, unread}
 use Rattle.comtrade_dat.specs.Samples.{channel_samples, first_fault, is_whole, judged_dat, judged_end, judged_record, judged_records, record_size, recording_of, sample_at, samples_of}
 use Rattle.comtrade_dat.specs.declared.dat_fault.DatFault.{DatFault}
 use Rattle.comtrade_dat.specs.declared.dat_fault.DatFault.TheVariants as fault
@@ -28,11 +29,7 @@ pub fault_of_records : (size : ℕ) (positions : List ℕ) (dat : Text) (e : Dat
     first_fault (judged_records size positions dat k) ≡ Err e → judged_dat size positions dat n ≡ Err e
 fault_of_records size positions dat e k n below found =
     first_fault_stays (judged_records size positions dat n) (judged_end size dat n ∷ []) e
-    (fault_among size positions dat e k n below found)
-
-pub alone : (judged : Result (Unit {0}) DatFault) → first_fault (judged ∷ []) ≡ judged
-alone (Ok good) = refl
-alone (Err found) = refl
+    (fault_among (judged_record size positions dat) e k n below found)
 
 not_below : (a b : ℕ) → b < a → nat_le a b ≡ false
 not_below a b below = grind (arith, nat_tests)
@@ -41,46 +38,38 @@ pub at_least : (a b : ℕ) → a ≤ b → nat_le a b ≡ true
 at_least a b most = grind (arith, nat_tests)
 
 -- whole records and one more are past the end
-past_whole : (size bytes : ℕ) → 0 < size → bytes < size * (bytes / size + 1)
+pub past_whole : (size bytes : ℕ) → 0 < size → bytes < size * (bytes / size + 1)
 past_whole size bytes positive =
     let small : bytes % size < size = mod_below bytes size positive in
     let more : size * (bytes / size + 1) ≡ size * (bytes / size) + size = omega arith in
     omega (arith, small, more)
 
--- n records are no more than the whole ones, or are not all there
-whole_or_short : (size : ℕ) (dat : Text) (n : ℕ) → 0 < size →
-    ((n ≤ length dat / size) × (min n (length dat / size) ≡ n))
-    ⊎ ((length dat / size < n) × (min n (length dat / size) ≡ length dat / size))
-whole_or_short size dat n positive = grind (arith, nat_tests)
-
--- a dat whose whole records are good, among the first n
-pub rest_decides : (size : ℕ) (positions : List ℕ) (dat : Text) (n : ℕ) → 0 < size →
-    first_fault (judged_records size positions dat (min n (length dat / size))) ≡ Ok (tt {0}) →
-    judged_dat size positions dat n ≡ judged_rest size dat n
-rest_decides size positions dat n positive good =
-    let whole = length dat / size in
-    elim (whole_or_short size dat n positive) [
-      | inl all ↦
-          let here = subst (λ k. first_fault (judged_records size positions dat k) ≡ Ok (tt {0})) all.1 good
+-- after good records, of which no more are whole, or which are n
+pub rest_decides : (size : ℕ) (positions : List ℕ) (dat : Text) (n count : ℕ) → count ≤ n →
+    (count < n → length dat < size * (count + 1)) →
+    first_fault (judged_records size positions dat count) ≡ Ok (tt {0}) →
+    judged_dat size positions dat n ≡ judged_count size count (length dat) n
+rest_decides size positions dat n count within cut good =
+    elim (cases_lt count n) [
+      | inl more ↦
+          let short : is_whole size dat count ≡ false = not_below (size * (count + 1)) (length dat) (cut more)
           in
+          let found : judged_record size positions dat count ≡ Err (fault.Short (count + 1)) =
+          rw short refl in
+          let below : count + 1 ≤ n = omega (arith, more) in
+          fault_of_records size positions dat (fault.Short (count + 1)) (count + 1) n below
+          (judged_next (judged_record size positions dat) count good ∙ found)
+          ∙ sym (ap (λ (b : Bool). provided b (fault.Short (count + 1)) (tt {0}) >>=
+          (λ whole. judged_end size dat n))
+          (not_below n count more))
+      | inr all ↦
+          let same : count ≡ n = omega (arith, within, all) in
+          let here = subst (λ k. first_fault (judged_records size positions dat k) ≡ Ok (tt {0})) same good in
           first_fault_after (judged_records size positions dat n) (judged_end size dat n ∷ []) here
           ∙ (alone (judged_end size dat n)
-          ∙ ap (λ (b : Bool). provided b (fault.Short (whole + 1)) (tt {0}) >>=
+          ∙ ap (λ (b : Bool). provided b (fault.Short (count + 1)) (tt {0}) >>=
           (λ whole. judged_end size dat n))
-          (sym (at_least n whole all.0)))
-      | inr cut ↦
-          let here = subst (λ k. first_fault (judged_records size positions dat k) ≡ Ok (tt {0})) cut.1 good
-          in
-          let past : length dat < size * (whole + 1) = past_whole size (length dat) positive in
-          let short : is_whole size dat whole ≡ false = not_below (size * (whole + 1)) (length dat) past in
-          let found : judged_record size positions dat whole ≡ Err (fault.Short (whole + 1)) =
-          rw short refl in
-          let below : whole + 1 ≤ n = omega (arith, cut.0) in
-          fault_of_records size positions dat (fault.Short (whole + 1)) (whole + 1) n below
-          (judged_next size positions dat whole here ∙ found)
-          ∙ sym (ap (λ (b : Bool). provided b (fault.Short (whole + 1)) (tt {0}) >>=
-          (λ whole. judged_end size dat n))
-          (not_below n whole cut.0))
+          (sym (at_least n count all)))
     ]
 
 -- ---- the recording
@@ -98,42 +87,18 @@ pub fault_of_dat : (c : Configuration) (s : Selected) (dat : Text) (e : DatFault
 unfolding samples_of
 fault_of_dat c s dat e found = ap (λ judged. judged >>= (λ good. Ok (recording_of c s dat))) found
 
--- the fault of a record that was read is that of the dat, or there was no memory
-pub refused_by_record : (c : Configuration) (s : Selected) (dat : Text) (size : ℕ) (positions : List ℕ)
-    (k : ℕ)
-    (e : DatFault) → size ≡ record_size c → positions ≡ s.positions → k ≤ c.endsamp →
-    (e ≡ fault.OutOfMemory) ⊎ (first_fault (judged_records size positions dat k) ≡ Err e) →
-    (e ≡ fault.OutOfMemory) ⊎ (samples_of c s dat ≡ Err e)
-refused_by_record c s dat size positions k e of_size of_positions within (inl free) = inl free
-refused_by_record c s dat size positions k e of_size of_positions within (inr found) =
-    let here : first_fault (judged_records (record_size c) s.positions dat k) ≡ Err e =
-    ap (λ size. first_fault (judged_records size s.positions dat k)) (sym of_size)
-    ∙ (ap (λ ps. first_fault (judged_records size ps dat k)) (sym of_positions) ∙ found) in
-    inr (fault_of_dat c s dat e (fault_of_records (record_size c) s.positions dat e k c.endsamp within here))
-
--- where the records that are there are good, the end decides
-pub end_decides : (c : Configuration) (s : Selected) (dat : Text) (size : ℕ) (positions : List ℕ) →
-    size ≡ record_size c → positions ≡ s.positions → 0 < size →
-    first_fault (judged_records size positions dat (min c.endsamp (length dat / size))) ≡ Ok (tt {0}) →
-    judged_dat (record_size c) s.positions dat c.endsamp ≡ judged_rest size dat c.endsamp
-end_decides c s dat size positions of_size of_positions positive good =
-    ap (λ size. judged_dat size s.positions dat c.endsamp) (sym of_size)
-    ∙ (ap (λ ps. judged_dat size ps dat c.endsamp) (sym of_positions)
-    ∙ rest_decides size positions dat c.endsamp positive good)
-
 -- where the end is good, all records are there
-pub all_there : (size : ℕ) (dat : Text) (n : ℕ) → 0 < size → judged_rest size dat n ≡ Ok (tt {0}) →
-    min n (length dat / size) ≡ n
-all_there size dat n positive good =
-    let whole = length dat / size in
-    elim (whole_or_short size dat n positive) [
-      | inl all ↦ all.1
-      | inr cut ↦
-          let refused : judged_rest size dat n ≡ Err (fault.Short (whole + 1)) =
-          ap (λ (b : Bool). provided b (fault.Short (whole + 1)) (tt {0}) >>=
-          (λ whole. judged_end size dat n))
-          (not_below n whole cut.0) in
+pub all_there : (size count bytes n : ℕ) → count ≤ n → judged_count size count bytes n ≡ Ok (tt {0}) →
+    count ≡ n
+all_there size count bytes n within good =
+    elim (cases_lt count n) [
+      | inl more ↦
+          let refused : judged_count size count bytes n ≡ Err (fault.Short (count + 1)) =
+          ap (λ (b : Bool). provided b (fault.Short (count + 1)) (tt {0}) >>=
+          (λ whole. provided (nat_le bytes (size * n)) (fault.Long (bytes - size * n)) (tt {0})))
+          (not_below n count more) in
           absurd cc
+      | inr all ↦ omega (arith, within, all)
     ]
 
 -- the positions of the channels at positions
@@ -156,20 +121,14 @@ samples_read c size dat n (p ∷ positions) =
     (samples_read c size dat n positions)
 
 -- so the samples of channels that have read all records are those of the recording
-pub samples_of_channels : (c : Configuration) (s : Selected) (dat : Text) (size : ℕ) (positions : List ℕ)
-    (n : ℕ)
-    (before after : List ChannelRead) (samples : List (List ℤ)) → size ≡ record_size c → positions
-    ≡ s.positions →
-    n ≡ c.endsamp → before ≡ map (unread c) positions → after ≡ map (read_on size dat 0 n) before →
-    samples ≡ map (λ (channel : ChannelRead). channel.samples) after → samples
-    ≡ (recording_of c s dat).samples
-samples_of_channels c s dat size positions n before after samples of_size of_positions all fresh read kept =
-    let got : List ChannelRead → List (List ℤ) = map (λ (channel : ChannelRead). channel.samples) in
-    let chain : samples ≡ map (λ p. channel_samples (coefficients_at c p) size p dat n) positions =
-    kept ∙ (ap got read ∙ (ap (λ channels. got (map (read_on size dat 0 n) channels)) fresh
-    ∙ samples_read c size dat n positions)) in
-    chain ∙ (ap (λ ps. map (λ p. channel_samples (coefficients_at c p) size p dat n) ps) of_positions
-    ∙ (ap (λ size. map (λ p. channel_samples (coefficients_at c p) size p dat n) s.positions) of_size
+pub samples_of_channels : (c : Configuration) (s : Selected) (dat : Text) (n : ℕ) (after : List ChannelRead)
+    (samples : List (List ℤ))
+    → n ≡ c.endsamp → after ≡ map (read_on (record_size c) dat 0 n) (map (unread c) s.positions)
+    → samples ≡ all_samples after → samples ≡ (recording_of c s dat).samples
+samples_of_channels c s dat n after samples all read kept =
+    kept
+    ∙ (ap all_samples read
+    ∙ (samples_read c (record_size c) dat n s.positions
     ∙ ap (λ n. map (λ p. channel_samples (coefficients_at c p) (record_size c) p dat n) s.positions) all))
 
 -- each channel has as many samples as there are records

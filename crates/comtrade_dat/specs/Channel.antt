@@ -1,11 +1,11 @@
 -- What contracts see of a selected channel that is being read: where its counts lie, and its samples so far.
-use Rattle.std.specs.Prelude.{◌≢◌, ℕ, ◌+◌, ◌*◌, ◌-◌, ◌/◌, ◌^◌, ◌<◌, ◌≤◌, nat_le, List, [], ◌++◌, All, length, map, ℤ, Result}
+use Rattle.std.specs.Prelude.{◌≢◌, ℕ, ◌+◌, ◌*◌, ◌-◌, ◌^◌, ◌<◌, ◌≤◌, nat_le, List, [], ◌++◌, All, map, ℤ, Result}
 use Rattle.std.specs.List.{range_with_len}
 use Rattle.comtrade_cfg.specs.Configuration.{Configuration}
 use Rattle.comtrade_cfg.specs.Selecting.{AreWithinLimit, coefficients_at}
 use Rattle.comtrade_cfg.specs.declared.voltage.Coefficients.{Coefficients}
 use Rattle.comtrade_dat.specs.BinaryRecord.{count_in, record_at}
-use Rattle.comtrade_dat.specs.Samples.{judged_end, sample_at}
+use Rattle.comtrade_dat.specs.Samples.{sample_at}
 use Rattle.comtrade_dat.specs.declared.dat_fault.DatFault.{DatFault}
 use Rattle.comtrade_dat.specs.declared.dat_fault.DatFault.TheVariants as fault
 use Rattle.comtrade_dat.specs.declared.limits.TheConstants.{MISSING_COUNT}
@@ -54,8 +54,9 @@ pub record IsChannel (c : ChannelRead) : Type 0 where
 abbrev pub unread : Configuration → ℕ → ChannelRead
 unread c position = record { position = position; coefficients = coefficients_at c position; samples = [] }
 
--- where good records are not all there, the first that is cut off; else the bytes that are left
-abbrev pub judged_rest : ℕ → Text → ℕ → Result (Unit {0}) DatFault
-judged_rest size dat n = do
-  whole ← provided (nat_le n (length dat / size)) (fault.Short (length dat / size + 1)) (tt {0})
-  judged_end size dat n
+-- after so many good records, of so many bytes: where not all n are there, the first that is cut off; else the
+-- bytes that are left
+abbrev pub judged_count : ℕ → ℕ → ℕ → ℕ → Result (Unit {0}) DatFault
+judged_count size count bytes n = do
+  whole ← provided (nat_le n count) (fault.Short (count + 1)) (tt {0})
+  provided (nat_le bytes (size * n)) (fault.Long (bytes - size * n)) (tt {0})

@@ -41,26 +41,29 @@ impl Model for Channel {
 }
 
 impl Channel {
-    // With room for the samples of so many records.
-    pub(crate) fn new(
-        alloc: Global,
-        position: usize,
-        coefficients: Coefficients,
-        room: usize,
-    ) -> Result<Channel, DatFault>
+    // It has no samples, and no room for any.
+    pub(crate) fn new(alloc: Global, position: usize, coefficients: Coefficients) -> Channel
         requires { AreWithinLimit coefficients }
-        ensures value { IfOk result (λ c. c ≡ record {
-          position = position;
-          coefficients = coefficients;
-          samples = [];
-        }) }
-        ensures err { OnErr result (IsErrOf result fault.OutOfMemory) }
+        ensures { result ≡ record { position = position; coefficients = coefficients; samples = [] } }
     {
-        Ok(Channel {
+        Channel {
             position,
             coefficients,
-            samples: Vec::with_capacity(alloc, room)?,
-        })
+            samples: Vec::new(alloc),
+        }
+    }
+
+    // Room for the next samples, of which so many are still to come. The first are given room for themselves
+    // alone: there may be no more of them, whatever the configuration says. Later ones are given the room of
+    // all that are to come: pages that are never written cost nothing, and no sample is moved again. Where
+    // there is no such room, the samples are given more as they come.
+    pub(crate) fn make_room(&mut self, next: usize, all: usize)
+        ensures { self.new ≡ self.old }
+    {
+        let wanted = if self.samples.is_empty() { next } else { all };
+        if self.samples.capacity() - self.samples.len() < next {
+            let _ = self.samples.reserve_exact(wanted);
+        }
     }
 
     // Takes the samples of the records from an index to another. Apart from its caller its loop has the

@@ -2,6 +2,7 @@
 ghost use Rattle.std.specs.Prelude.{◌≡◌};
 ghost use Rattle.comtrade_dat.specs.declared.dat_fault.DatFault.TheVariants as fault;
 
+use pq_base::OutOfMemory;
 use std::alloc::{AllocError, AllocFailed};
 
 /// The first fault of a dat. Records count from 1.
@@ -31,6 +32,14 @@ impl<T: Drop> From<AllocFailed<T>> for DatFault {
     ghost from_gives = { λ _ e. e ≡ fault.OutOfMemory };
 
     fn from(_error: AllocFailed<T>) -> DatFault {
+        DatFault::OutOfMemory
+    }
+}
+
+impl From<OutOfMemory> for DatFault {
+    ghost from_gives = { λ _ e. e ≡ fault.OutOfMemory };
+
+    fn from(_error: OutOfMemory) -> DatFault {
         DatFault::OutOfMemory
     }
 }

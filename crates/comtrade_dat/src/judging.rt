@@ -1,42 +1,69 @@
 // The judgement of records, in order.
-ghost use Rattle.std.specs.Prelude.{◌≡◌, ◌+◌, ◌*◌, ◌≤◌, ◌<◌, All, IfOk, IfSome, OnOk, Err, Ok, find, length};
+ghost use Rattle.std.specs.Prelude.{◌≡◌, ◌+◌, ◌*◌, ◌^◌, ◌≤◌, ◌<◌, All, IfSome, Ok, find, length};
 ghost use Rattle.comtrade_dat.specs.Channel.{IsLayout};
-ghost use Rattle.comtrade_dat.specs.Samples.{first_fault, is_missing, is_numbered, judged_record, judged_records};
+ghost use Rattle.comtrade_dat.specs.Run.{is_numbered_after, judged_bytes, judged_in, judged_run};
+ghost use Rattle.comtrade_dat.specs.Samples.{first_fault, is_missing};
+ghost use Rattle.pq_words.specs.declared.limits.TheConstants.{MOST_SAMPLES};
 
 use crate::dat_fault::DatFault;
 use crate::fields::{count_in, number_in, record_at};
 use crate::limits::MISSING_COUNT;
+use crate::run_start::{RunStart, number_before};
 
-// The records from an index to another, which is not included, in order. Those before them are good.
+// The records of a run from an index to another, which is not included, in order. Those before them are good.
 pub(crate) fn judge_records(
     size: usize,
     positions: &[u32],
-    dat: &[u8],
-    start: usize,
+    start: RunStart,
+    run: &[u8],
+    from: usize,
     end: usize,
 ) -> Result<(), DatFault>
-    requires forward { start ≤ end }
-    requires whole { size * end ≤ length dat.now }
+    requires forward { from ≤ end }
+    requires whole { size * end ≤ length run.now }
+    requires few { start.index + end ≤ MOST_SAMPLES }
     requires layout { IsLayout size positions.now }
-    requires good { first_fault (judged_records size positions.now dat.now start) ≡ Ok (tt {0}) }
-    ensures { result ≡ first_fault (judged_records size positions.now dat.now end) }
+    requires good { first_fault (judged_run size positions.now start run.now from) ≡ Ok (tt {0}) }
+    ensures { result ≡ first_fault (judged_run size positions.now start run.now end) }
 {
-    for index in start..end {
-        judge_record(size, positions, dat, index)?;
+    for index in from..end {
+        judge_record(size, positions, start, run, index)?;
     }
     Ok(())
 }
 
-// The record at an index: its number, and its selected counts.
-fn judge_record(size: usize, positions: &[u32], dat: &[u8], index: usize) -> Result<(), DatFault>
-    requires whole { size * (index + 1) ≤ length dat.now }
+// The record at an index of a run.
+fn judge_record(
+    size: usize,
+    positions: &[u32],
+    start: RunStart,
+    run: &[u8],
+    index: usize,
+) -> Result<(), DatFault>
+    requires whole { size * (index + 1) ≤ length run.now }
+    requires few { start.index + index < MOST_SAMPLES }
     requires layout { IsLayout size positions.now }
-    ensures { result ≡ judged_record size positions.now dat.now index }
+    ensures { result ≡ judged_in size positions.now start run.now index }
 {
-    let at = index as u64 + 1;
-    let bytes = record_at(size, dat, index);
-    if !is_numbered(size, dat, index) {
-        let found = number_in(bytes);
+    let before = number_before(size, start.before, run, index);
+    let at = (start.index + index) as u64 + 1;
+    judge_bytes(positions, before, at, record_at(size, run, index))
+}
+
+// The bytes of a record: its number, and its selected counts.
+fn judge_bytes(
+    positions: &[u32],
+    before: Option<u32>,
+    at: u64,
+    bytes: &[u8],
+) -> Result<(), DatFault>
+    requires least { 10 ≤ length bytes.now }
+    requires room { All (λ p. 10 + 2 * p ≤ length bytes.now) positions.now }
+    requires small { length bytes.now < 2 ^ 16 }
+    ensures { result ≡ judged_bytes positions.now before at bytes.now }
+{
+    let found = number_in(bytes);
+    if !is_numbered_after(before, found) {
         return Err(DatFault::Number { at, found });
     }
     match missing(bytes, positions) {
@@ -48,17 +75,14 @@ fn judge_record(size: usize, positions: &[u32], dat: &[u8], index: usize) -> Res
     }
 }
 
-// Whether a record is the first, or numbered after the one before it.
-fn is_numbered(size: usize, dat: &[u8], index: usize) -> bool
-    requires whole { size * (index + 1) ≤ length dat.now }
-    requires fields { 8 ≤ size }
-    ensures { result ≡ is_numbered size dat.now index }
+// Whether a number follows that of the record before, where there is one.
+fn is_numbered_after(before: Option<u32>, number: u32) -> bool
+    ensures { result ≡ is_numbered_after before number }
 {
-    if index == 0 {
-        return true;
+    match before {
+        Some(before) => number == before.wrapping_add(1),
+        None => true,
     }
-    let before = number_in(record_at(size, dat, index - 1));
-    number_in(record_at(size, dat, index)) == before.wrapping_add(1)
 }
 
 // The first of the positions whose channel has no count.

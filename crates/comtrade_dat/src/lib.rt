@@ -2,6 +2,7 @@
 #![tactic(auto)]
 
 pub use dat_fault::DatFault;
+pub use dat_reader::DatReader;
 pub use laws::{dats_read_back, none_for_memory, records_read_back};
 pub use limits::{MISSING_COUNT, MOST_DAT_BYTES};
 pub use reading::read_dat;
@@ -9,10 +10,14 @@ pub use writing::record16;
 
 mod channel;
 mod dat_fault;
+mod dat_reader;
+mod decoded;
 mod fields;
 mod judging;
 mod laws;
 mod limits;
+mod progress;
 mod reading;
+mod run_start;
 mod sample;
 mod writing;

@@ -7,9 +7,12 @@ use Rattle.std.specs.Prelude.{IsSomeAnd, nat_le}
 use Rattle.cfg_fields.specs.declared.fault.Quantity.{Quantity}
 use Rattle.pq_base.specs.Causes.{CountsOnce, Rose}
 use Rattle.pq_base.specs.Outside.{Files, HasAsked, IsMissing, IsOver, file_named}
+use Rattle.pq_base.specs.ReadAll.{is_failed}
+use Rattle.pq_base.specs.declared.shelf.ReadAll.{ReadAll}
+use Rattle.pq_base.specs.declared.shelf.ReadAll.TheVariants as why
 use Rattle.pq_course.proofs.CourseLemmas.{Follows, asked_none, asks_first, top_call_after}
 use Rattle.pq_course.proofs.ReadingLemmas.{IsQuiet, of_any_outcome, refused}
-use Rattle.pq_course.specs.InputFile.{asks_for, limit_of, number_of, quantity_of}
+use Rattle.pq_course.specs.InputFile.{asks_for, limit_of, number_of, quantity_of, refusal_of}
 use Rattle.pq_course.specs.Parts.{IsRead}
 use Rattle.status_text.specs.Refusals.{IsRefusing}
 use Rattle.pq_course.specs.TopCall.{IsTopCall, Reading}
@@ -109,3 +112,26 @@ over file name go r what limit is_what is_limit is names later counted =
     subst (λ q. IsRead (asks_for file name go) r (Err (status.Limit q 0))) (sym is_what)
     (refused_file file name go r (Some found.0) (status.Limit (quantity_of file) 0) tt
     (rw (past_limit (length found.0) (limit_of file) found.2) refl) found.1 names later counted)
+
+-- ---- any of these
+
+-- what is known where a file can't be had, for this reason
+pub record CannotHave (file : InputFile) (name : Text) (r : Reading) (reason : ReadAll) : Type 0 where
+  pub names : HasAsked r.asked_before (name ∷ []) r.asked_after
+  pub later : r.before ≤ r.after
+  pub failed : reason ≡ why.Failed → Rose r.before r.after
+  pub missing : reason ≡ why.Missing → IsMissing r.files name
+  pub over : reason ≡ why.Over → IsOver r.files name (limit_of file)
+
+pub cannot_have : (file : InputFile) (name : Text) (go : Text → Course Status) (r : Reading)
+    (reason : ReadAll)
+    → CannotHave file name r reason
+    → CountsOnce r.each r.before r.after (is_failed {X = Unit {0}} (Err reason))
+    → IsRead (asks_for file name go) r (Err (refusal_of file reason r.after))
+cannot_have file name go r why.Failed h counted =
+    read_fault file name go r r.after h.names counted (h.failed refl) refl
+cannot_have file name go r why.Missing h counted =
+    missing file name go r (number_of file) refl (h.missing refl) h.names h.later counted
+cannot_have file name go r why.Over h counted =
+    over file name go r (quantity_of file) (limit_of file) refl refl (h.over refl) h.names h.later counted
+cannot_have file name go r why.OutOfMemory h counted = no_memory file name go r h.names counted

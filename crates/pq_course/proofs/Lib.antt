@@ -1,4 +1,5 @@
 pub mod CourseLemmas
+pub mod FeedLemmas
 pub mod FileLemmas
 pub mod PartLemmas
 pub mod ReadingLemmas

@@ -4,6 +4,8 @@ use Rattle.cfg_fields.specs.declared.fault.Quantity.{Quantity}
 use Rattle.cfg_fields.specs.declared.fault.Quantity.TheVariants as quantity
 use Rattle.comtrade_cfg.specs.declared.limits.TheConstants.{MOST_CFG_BYTES}
 use Rattle.comtrade_dat.specs.declared.limits.TheConstants.{MOST_DAT_BYTES}
+use Rattle.pq_base.specs.declared.shelf.ReadAll.{ReadAll}
+use Rattle.pq_base.specs.declared.shelf.ReadAll.TheVariants as why
 use Rattle.pq_course.specs.Verdict.{Course, Asks, with_file}
 use Rattle.pq_course.specs.declared.input_file.InputFile.{InputFile}
 use Rattle.pq_course.specs.declared.input_file.InputFile.TheVariants as file
@@ -35,3 +37,10 @@ abbrev pub asks_for : InputFile → Text → (Text → Course Status) → Course
 asks_for file name go =
     Asks name (with_file (status.NoFile (number_of file)) (status.Limit (quantity_of file) 0)
     (limit_of file) go)
+
+-- the status of a call that can't have it, after so many faults
+abbrev pub refusal_of : InputFile → ReadAll → ℕ → Status
+refusal_of file why.Failed faults = status.ReadFault faults
+refusal_of file why.Missing faults = status.NoFile (number_of file)
+refusal_of file why.Over faults = status.Limit (quantity_of file) 0
+refusal_of file why.OutOfMemory faults = status.OutOfMemory

@@ -1,3 +1,4 @@
+pub mod Feeding
 pub mod InputFile
 pub mod Judged
 pub mod Parts

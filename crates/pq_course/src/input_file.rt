@@ -1,6 +1,6 @@
 // The files that words name.
 ghost use Rattle.std.specs.Prelude.{◌≡◌};
-ghost use Rattle.pq_course.specs.InputFile.{limit_of, number_of, quantity_of};
+ghost use Rattle.pq_course.specs.InputFile.{limit_of, number_of, quantity_of, refusal_of};
 ghost use Rattle.pq_course.specs.Parts.{IsFileRead};
 ghost use Rattle.pq_course.specs.TopCall.{reading_of};
 
@@ -34,17 +34,26 @@ pub fn read_file<K: Shelf>(
 {
     match read_all(alloc, shelf, name, limit_of(file)) {
         Ok(bytes) => Ok(Text::new(bytes)),
-        Err(ReadAll::Failed) => Err(Status::ReadFault {
+        Err(why) => Err(refusal(file, shelf, why)),
+    }
+}
+
+// The status of a call that can't have a file.
+pub(crate) fn refusal<K: Shelf>(file: InputFile, shelf: &K, why: ReadAll) -> Status
+    ensures { result ≡ refusal_of file why (K.faults shelf.now) }
+{
+    match why {
+        ReadAll::Failed => Status::ReadFault {
             faults: shelf.faults(),
-        }),
-        Err(ReadAll::Missing) => Err(Status::NoFile {
+        },
+        ReadAll::Missing => Status::NoFile {
             file: number_of(file),
-        }),
-        Err(ReadAll::Over) => Err(Status::Limit {
+        },
+        ReadAll::Over => Status::Limit {
             what: quantity_of(file),
             line: 0,
-        }),
-        Err(ReadAll::OutOfMemory) => Err(Status::OutOfMemory),
+        },
+        ReadAll::OutOfMemory => Status::OutOfMemory,
     }
 }
 
@@ -60,7 +69,7 @@ fn number_of(file: InputFile) -> u32
 }
 
 // The most bytes that it may have.
-fn limit_of(file: InputFile) -> u64
+pub(crate) fn limit_of(file: InputFile) -> u64
     ensures { result ≡ limit_of file }
 {
     match file {

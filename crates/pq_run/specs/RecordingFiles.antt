@@ -5,6 +5,7 @@ use Rattle.command_words.specs.declared.command.Measuring.{Measuring}
 use Rattle.comtrade_cfg.specs.CfgText.{configuration_of}
 use Rattle.comtrade_cfg.specs.Configuration.{Configuration, cfg_view}
 use Rattle.comtrade_cfg.specs.Selecting.{Selected, selected_of, selection_view}
+use Rattle.comtrade_dat.specs.DatReader.{DatReading, HasRead}
 use Rattle.comtrade_dat.specs.Samples.{samples_of}
 use Rattle.pq_base.specs.Recorded.{Recorded}
 use Rattle.pq_course.specs.InputFile.{asks_for}
@@ -52,6 +53,10 @@ IsSelectedConfiguration s = (wanted : Option (List ℕ)) × (reference : Option 
 -- a dat: the recording that it makes, or its refusal
 abbrev pub dat_recording : SelectedConfiguration → Text → Result Recorded Status
 dat_recording s dat = or_refused dat_refusal (samples_of s.configuration s.selected dat)
+
+-- a reader for the dat of a configuration and a selection of it has been fed these bytes
+abbrev pub HasReadDat : SelectedConfiguration → Text → DatReading → Type 0
+HasReadDat s dat reader = HasRead s.configuration s.selected dat reader
 
 -- the dat is asked for, and the course goes on with the recording where it is good
 abbrev pub dat_course : Measurement → SelectedConfiguration → (Recorded → Course Status) → Course Status

@@ -1,15 +1,17 @@
 // The recording that a cfg and a dat make.
-ghost use Rattle.std.specs.Prelude.{◌≡◌, IfErr, option_map};
+ghost use Rattle.std.specs.Prelude.{◌≡◌, [], IfErr, IfOk, IsErrOf, OnErr, option_map};
 ghost use Rattle.comtrade_cfg.specs.Selecting.{wanted_view};
 ghost use Rattle.pq_course.specs.TopCall.{reading_of};
-ghost use Rattle.pq_run.specs.RecordingFiles.{Gives, IsRecordingRead, IsSelectedConfiguration, dat_recording, selected_cfg_view};
+ghost use Rattle.pq_run.specs.RecordingFiles.{Gives, HasReadDat, IsRecordingRead, IsSelectedConfiguration, SelectedConfiguration, dat_recording, selected_cfg_view};
+ghost use Rattle.pq_words.specs.Text.{Text};
 ghost use Rattle.status_text.specs.Refusals.{IsRefusing};
+ghost use Rattle.status_text.specs.declared.status.Status.TheVariants as status;
 
 use crate::selected_cfg::{SelectedCfg, selected_cfg};
 use command_words::Measuring;
-use comtrade_dat::read_dat;
-use pq_base::{Recording, Shelf, Text};
-use pq_course::{InputFile, read_file};
+use comtrade_dat::DatReader;
+use pq_base::{Recording, Shelf};
+use pq_course::{InputFile, feed_dat, read_file};
 use status_text::Status;
 use std::alloc::Global;
 
@@ -26,8 +28,9 @@ pub fn read_recording<K: Shelf>(
     let cfg = read_file(alloc, shelf, InputFile::Cfg, measuring.cfg)?;
     let wanted = wanted_numbers(&measuring.channels);
     let selected = selected_cfg(alloc, cfg.bytes(), wanted, measuring.reference)?;
-    let dat = read_file(alloc, shelf, InputFile::Dat, measuring.dat)?;
-    dat_recording(alloc, &selected, dat)
+    let mut reader = dat_reader(alloc, &selected)?;
+    feed_dat(shelf, measuring.dat, &mut reader)?;
+    dat_recording(alloc, reader)
 }
 
 // The numbers of the channels that are wanted.
@@ -40,12 +43,22 @@ fn wanted_numbers(channels: &Option<Vec<u32>>) -> Option<&[u32]>
     }
 }
 
-// The recording that a dat makes, or the dat's refusal.
-fn dat_recording(alloc: Global, selected: &SelectedCfg, dat: Text) -> Result<Recording, Status>
+// A reader for the dat of a cfg, which has been fed nothing.
+fn dat_reader(alloc: Global, selected: &SelectedCfg) -> Result<DatReader<'_>, Status>
     requires { IsSelectedConfiguration (selected_cfg_view selected.now) }
-    ensures value { Gives result (dat_recording (selected_cfg_view selected.now) dat) }
+    ensures fed { IfOk result (HasReadDat (selected_cfg_view selected.now) []) }
+    ensures err { OnErr result (IsErrOf result status.OutOfMemory) }
+{
+    let reader = DatReader::open(alloc, &selected.cfg, &selected.selection)?;
+    Ok(reader)
+}
+
+// The recording that the dat makes which a reader was fed, or the dat's refusal.
+fn dat_recording(alloc: Global, reader: DatReader<'_>) -> Result<Recording, Status>
+    ensures value { (s : SelectedConfiguration) (dat : Text) → HasReadDat s dat reader.entry →
+        Gives result (dat_recording s dat) }
     ensures refuses { IfErr result IsRefusing }
 {
-    let recording = read_dat(alloc, &selected.cfg, &selected.selection, dat.bytes())?;
+    let recording = reader.finish(alloc)?;
     Ok(recording)
 }

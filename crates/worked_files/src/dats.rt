@@ -1,8 +1,10 @@
 // Records as `record16` makes them and `read_dat` reads them: two analogue channels, of which the first is
 // in volts, and 17 status channels.
+ghost use Rattle.std.specs.Prelude.{◌<◌};
+
 use comtrade_cfg::{read_cfg, select};
-use comtrade_dat::{DatFault, MISSING_COUNT, read_dat, record16};
-use pq_base::OutOfMemory;
+use comtrade_dat::{DatFault, DatReader, MISSING_COUNT, read_dat, record16};
+use pq_base::{OutOfMemory, Recording};
 use std::alloc::{AllocError, Global};
 use std::test::Fail;
 
@@ -51,7 +53,37 @@ fn read(alloc: Global, cfg: &[u8], dat: &[u8]) -> Option<Result<Vec<i64>, DatFau
     let Ok(selection) = select(alloc, &cfg, None, None) else {
         return None;
     };
-    match read_dat(alloc, &cfg, &selection, dat) {
+    samples_of(alloc, read_dat(alloc, &cfg, &selection, dat))
+}
+
+// The same of a dat that comes in pieces of so many bytes.
+fn read_in_pieces(
+    alloc: Global,
+    cfg: &[u8],
+    dat: &[u8],
+    size: usize,
+) -> Option<Result<Vec<i64>, DatFault>>
+    requires { 0 < size }
+{
+    let Ok(cfg) = read_cfg(alloc, cfg) else {
+        return None;
+    };
+    let Ok(selection) = select(alloc, &cfg, None, None) else {
+        return None;
+    };
+    let mut reader = DatReader::open(alloc, &cfg, &selection).ok()?;
+    for piece in dat.chunks(size) {
+        reader.feed(piece).ok()?;
+    }
+    samples_of(alloc, reader.finish(alloc))
+}
+
+// The samples of the one channel of a recording, or the fault.
+fn samples_of(
+    alloc: Global,
+    read: Result<Recording, DatFault>,
+) -> Option<Result<Vec<i64>, DatFault>> {
+    match read {
         Ok(recording) if recording.channels() == 1 => {
             Some(Ok(recording.samples(0).to_vec(alloc).ok()?))
         }
@@ -102,6 +134,32 @@ fn dat_cut_long_misnumbered(rt: HostRuntime) -> Result<(), Fail> {
     ] {
         let read = read(alloc, &wide_cfg(alloc, samples)?, dat).expect(&rt, "a good cfg");
         assert!(rt; read.is_err_and(|found| found == fault), "{fault:?}");
+    }
+    Ok(())
+}
+
+// A dat of 16 bytes a record gives the same however it is cut: in single bytes, in sevens, by records, and by
+// records and a half; so does one at fault, with bytes after the fault.
+#[test]
+fn dat_in_pieces(rt: HostRuntime) -> Result<(), Fail> {
+    let alloc = rt.alloc();
+    let good = wide_dat(alloc, &[(7, 1), (8, 2), (9, -3), (10, 4), (11, 5)]).expect(&rt, "memory");
+    let misnumbered = wide_dat(alloc, &[(7, 1), (8, 2), (8, 3), (1, 4)]).expect(&rt, "memory");
+    let missing = wide_dat(alloc, &[(7, 1), (8, MISSING_COUNT), (9, 3)]).expect(&rt, "memory");
+    let cfg = wide_cfg(alloc, 5)?;
+    let few = wide_cfg(alloc, 4)?;
+    for size in [1, 7, 16, 24] {
+        for (cfg, dat) in [
+            (cfg.as_slice(), good.as_slice()),
+            (cfg.as_slice(), &good[..70]),
+            (few.as_slice(), good.as_slice()),
+            (cfg.as_slice(), misnumbered.as_slice()),
+            (cfg.as_slice(), missing.as_slice()),
+        ] {
+            let whole = read(alloc, cfg, dat).expect(&rt, "a good cfg");
+            let pieces = read_in_pieces(alloc, cfg, dat, size).expect(&rt, "memory");
+            assert!(rt; pieces == whole, "{size}");
+        }
     }
     Ok(())
 }

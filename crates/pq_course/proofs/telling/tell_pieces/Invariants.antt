@@ -1,4 +1,4 @@
-use Rattle.std.proofs.Common.{◌≤◌, take}
+use Rattle.std.proofs.Common.{take}
 use Rattle.std.specs.List.{flat_map}
 use Rattle.pq_course.proofs.PartLemmas.{IsSoFar}
 use Rattle.pq_course.proofs.telling.tell_pieces.Given as goal

@@ -1,7 +1,7 @@
 use Rattle.std.proofs.Common.{◌≡◌, length, arith, rules}
 use Rattle.comtrade_cfg.proofs.ConfigurationBounds.{configuration_bounded}
 use Rattle.comtrade_cfg.specs.Configuration.{cfg_view}
-use Rattle.comtrade_dat.proofs.reading.record_size.Goals as goal
+use Rattle.comtrade_dat.proofs.dat_reader.record_size.Goals as goal
 
 pub overflow_add-result : goal.overflow_add-result
 overflow_add-result c =

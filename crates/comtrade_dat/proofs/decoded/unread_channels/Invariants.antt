@@ -1,7 +1,7 @@
 use Rattle.std.proofs.Common.{◌≡◌, map, take}
 use Rattle.comtrade_cfg.specs.Configuration.{cfg_view}
 use Rattle.comtrade_dat.specs.Channel.{unread}
-use Rattle.comtrade_dat.proofs.reading.channels.Given as goal
+use Rattle.comtrade_dat.proofs.decoded.unread_channels.Given as goal
 
 -- the channels so far
 abbrev pub invariant-loop-position : goal.invariant-loop-position

@@ -3,7 +3,7 @@ use Rattle.std.specs.List.{All}
 use Rattle.comtrade_dat.specs.Channel.{ChannelRead}
 use Rattle.pq_words.specs.declared.limits.TheConstants.{MOST_MICROVOLTS}
 use Rattle.pq_words.specs.Magnitude.{IsWithin}
-use Rattle.comtrade_dat.proofs.reading.samples.Given as goal
+use Rattle.comtrade_dat.proofs.decoded.samples.Given as goal
 
 -- the samples of the channels so far
 abbrev pub invariant-loop-channel : goal.invariant-loop-channel

@@ -1,0 +1,48 @@
+-- What contracts see of a reader of a dat, and what it means that it was fed these bytes.
+use Rattle.std.specs.Prelude.{◌≡◌, ◌++◌, map, Some}
+use Rattle.comtrade_cfg.specs.CfgText.{IsConfiguration}
+use Rattle.comtrade_cfg.specs.Configuration.{Configuration}
+use Rattle.comtrade_cfg.specs.Selecting.{IsSelected, Selected}
+use Rattle.comtrade_dat.specs.Channel.{unread}
+use Rattle.comtrade_dat.specs.Progress.{IsFed, IsWhole}
+use Rattle.comtrade_dat.specs.Samples.{record_size}
+use Rattle.comtrade_dat.specs.declared.dat_fault.DatFault.TheVariants as fault
+use Rattle.comtrade_dat.specs.declared.decoded.Decoded.{Decoded}
+use Rattle.comtrade_dat.specs.declared.progress.Progress.{Progress}
+use Rattle.pq_words.specs.Text.{Text}
+
+-- a reader by its configuration, its selection, and how far it has come
+pub record DatReading : Type 0 where
+  pub configuration : Configuration
+  pub selected : Selected
+  pub progress : Progress
+
+-- a reader that was opened with this configuration and this selection has been fed these bytes
+pub record HasRead (c : Configuration) (s : Selected) (fed : Text) (r : DatReading) : Type 0 where
+  pub configuration : r.configuration ≡ c
+  pub selected : r.selected ≡ s
+  pub progress : IsFed (record_size c) s.positions c.endsamp (map (unread c) s.positions) r.progress fed
+
+-- whatever it was fed before, it has been fed this piece after it
+abbrev pub FeedsOn : DatReading → Text → DatReading → Type 0
+FeedsOn old piece new =
+    (c : Configuration) (s : Selected) (fed : Text) → HasRead c s fed old → HasRead c s (fed ++ piece) new
+
+-- there was no memory for what it was fed
+abbrev pub HasNoMemory : DatReading → Type 0
+HasNoMemory r = r.progress.fault ≡ Some fault.OutOfMemory
+
+-- these records are all of these bytes
+abbrev pub IsWholeOf : Configuration → Selected → Decoded → Text → Type 0
+IsWholeOf c s d fed = IsWhole (record_size c) s.positions c.endsamp (map (unread c) s.positions) d fed
+
+-- or of some bytes
+abbrev pub IsOfWhole : Configuration → Selected → Decoded → Type 0
+IsOfWhole c s d = (fed : Text) × IsWholeOf c s d fed
+
+-- a reader of a configuration that some text says, and of a selection of it, has been fed some bytes
+pub record IsReader (r : DatReading) : Type 0 where
+  pub said : IsConfiguration r.configuration
+  pub chosen : IsSelected r.configuration r.selected
+  pub fed : Text
+  pub read : HasRead r.configuration r.selected fed r
