@@ -18,7 +18,6 @@ use Rattle.pq_sequence.specs.SequentialResult.{sequential}
 use Rattle.pq_sequence.proofs.RangeLaws.{items_in_range}
 use Rattle.pq_sequence.proofs.ResultLaws.{result_in_range}
 use Rattle.progress_words.specs.declared.shared.Shared.{Ghosts}
-use Rattle.progress_words.specs.Words.{reader_of}
 use Rattle.query_session.specs.declared.answer.Next.TheVariants.{Item}
 use Rattle.query_session.specs.declared.session.SessionOf.{SessionOf}
 use Rattle.query_session.specs.Session.{WaitAnswers, result_of, view_of}
