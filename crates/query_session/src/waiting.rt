@@ -8,9 +8,11 @@ use crate::chain::Chain;
 use crate::session::SessionOf;
 use interval_ledger::Ledger;
 use std::sync::Wait;
+use std::thread;
 
 impl SessionOf<Ledger> {
-    /// `next` again while it answers Withheld or Busy. It may wait for others.
+    /// `next` again while it answers Withheld or Busy, with the thread yielded in between. It may wait for
+    /// others.
     pub fn next_wait<R: Wait>(&mut self, rt: &R, chain: &Chain) -> Next
         requires mine { IsSessionOf chain.now self.old }
         requires idle { IsIdle self.old }
@@ -21,8 +23,8 @@ impl SessionOf<Ledger> {
     {
         for _ in rt.forever() {
             match self.next(chain) {
-                Next::Withheld { .. } => {}
-                Next::Busy { .. } => {}
+                Next::Withheld { .. } => thread::yield_now(),
+                Next::Busy { .. } => thread::yield_now(),
                 next => return next,
             }
         }
