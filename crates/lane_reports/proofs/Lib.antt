@@ -1,0 +1,3 @@
+mod OpeningLaws
+mod PrintedLaws
+mod RowLaws
