@@ -30,7 +30,8 @@ has_bounds r limits is = record {
   rises = λ lane j k until. reach_rises r is lane j k until;
   tells = λ lane j k inside there e. reach_tells r is lane j k inside there e;
   keys = λ lane k i there. key_within r is lane k i there;
-  few = λ lane. let h = few_keys (sample_count r) 0 (lane_items r lane) (omega arith) (lane_rises r is lane) in
+  few = λ lane. let h = few_keys (sample_count r) 0 (lane_items r lane) (omega arith)
+      (lane_rises r is lane) in
       omega (arith, h);
   ended = λ k x there. item_ends r limits k x is there;
 }

@@ -13,7 +13,7 @@ use Rattle.progress_words.specs.declared.shared.Shared.{Ghosts}
 use Rattle.progress_words.specs.PassView.{fresh_lane, fresh_reader, idle_view}
 use Rattle.query_session.specs.declared.chain.ChainOf.{ChainOf}
 use Rattle.query_session.specs.declared.seat.SeatOf.{SeatOf}
-use Rattle.query_session.specs.Chain.{AreFreshSeats, IsFreshLaneOf, IsFreshReaderOf, IsFreshSeat, IsOpeningOf, lane_at_first, reader_at_first, subject}
+use Rattle.query_session.specs.Chain.{AreFreshSeats, AreReady, IsFreshLaneOf, IsFreshReaderOf, IsFreshSeat, IsOpeningOf, lane_at_first, reader_at_first, subject}
 
 zeros : (n k : ℕ) → slice_index (replicate n 0) k ≡ 0
 zeros zero k = refl
@@ -81,3 +81,13 @@ seats_snoc {g} chain r limits lane (x ∷ xs) s h p = (
   seats_snoc chain r limits (lane + 1) xs s h.1
       (subst (λ (k : ℕ). IsFreshSeat chain r limits k s) (omega arith) p),
 )
+
+-- fresh seats are ready
+pub fresh_ready : {g : Ghosts Ledger Subject} (chain : ChainOf Ledger Subject) (r : Recorded)
+    (limits : Limits)
+    (lane : ℕ) (seats : List (SeatOf Ledger g)) →
+    AreFreshSeats chain r limits lane seats → AreReady chain seats
+fresh_ready {g} chain r limits lane [] h k d l = absurd (omega (arith, l))
+fresh_ready {g} chain r limits lane (s ∷ seats) h zero d l = (h.0.mine, h.0.idle)
+fresh_ready {g} chain r limits lane (s ∷ seats) h (suc k) d l =
+    fresh_ready chain r limits (lane + 1) seats h.1 k d (omega (arith, l))

@@ -53,7 +53,8 @@ pub posts_more : (s : SettlementView) (lane k : ℕ) → lane < length s.counts 
     with_posts (with_posts s lane k) lane 1 ≡ with_posts s lane (k + 1)
 posts_more s lane k inside =
     let count = posted_count s lane in
-    let same : slice_set (slice_set s.counts lane (count + k)) lane (posted_count (with_posts s lane k) lane + 1)
+    let same : slice_set (slice_set s.counts lane (count + k)) lane
+    (posted_count (with_posts s lane k) lane + 1)
     ≡ slice_set s.counts lane (count + (k + 1)) =
     set_again s.counts lane (count + k) (posted_count (with_posts s lane k) lane + 1)
     ∙ ap (λ j. slice_set s.counts lane j) (ap (λ j. j + 1) (posted_is s lane k inside) ∙ omega arith) in
@@ -63,7 +64,9 @@ pub posts_on : (old mid new : Ledger) (lane k : ℕ) → lane < lane_count (ledg
     PostsMany old mid lane k → PostsOne mid new lane → PostsMany old new lane (k + 1)
 posts_on old mid new lane k inside many one =
     let sized = old.posted.sized in
-    one ∙ (ap (λ s. with_posts s lane 1) many ∙ posts_more (ledger_view old) lane k (omega (arith, inside, sized)))
+    one
+    ∙ (ap (λ s. with_posts s lane 1) many ∙ posts_more (ledger_view old) lane k
+    (omega (arith, inside, sized)))
 
 count_after : (t u : Ledger) (lane k : ℕ) → PostsMany t u lane k → lane < length (ledger_view t).counts →
     count_of u lane ≡ count_of t lane + k
@@ -107,7 +110,8 @@ may_give_lane n t u v lane k bounds named place held posts inside = (
         let of_u : (ledger_view u).recording ≡ r = ap (λ (s : SettlementView). s.recording) posts ∙ of_t in
         let a = bounds.rises lane (count_of t lane) (count_of u lane) (omega (arith, more)) in
         subst (λ (x : Recorded). reach x lane (count_of t lane) ≤ reach_of u lane) (sym of_t)
-        (subst (λ (x : Recorded). reach r lane (count_of t lane) ≤ reach x lane (count_of u lane)) (sym of_u) a)
+        (subst (λ (x : Recorded). reach r lane (count_of t lane) ≤ reach x lane (count_of u lane))
+        (sym of_u) a)
         ),
   ),
 )

@@ -19,7 +19,8 @@ use Rattle.progress_words.specs.declared.pass_view.PassView.{PassView}
 use Rattle.progress_words.specs.declared.pass_view.ReaderView.{ReaderView}
 use Rattle.progress_words.specs.declared.pass_view.Role.{Role}
 use Rattle.progress_words.specs.declared.pass_view.Role.TheVariants.{Raises, Reads}
-use Rattle.query_session.specs.Shown.{ShowsCores, sessions_of, with_session}
+use Rattle.progress_words.specs.Seat.{EachReader}
+use Rattle.query_session.specs.Shown.{ShowsCores, loads_of, sessions_of, with_loads, with_session}
 
 -- ---- the reach of a core is that of the recording
 
@@ -44,7 +45,8 @@ reach_shown : (r : Recorded) (limits : Limits) (lane count : ℕ) → lane < lan
 unfolding reach
 reach_shown r limits lane count inside =
     ap (λ keys. option_map_or (λ key. key - 1) (slice_get keys count) (sample_count r))
-    (keys_in (keys_at r) 0 (lane_count r) lane inside ∙ ap (keys_at r) {x = 0 + lane} {y = lane} (omega arith))
+    (keys_in (keys_at r) 0 (lane_count r) lane inside ∙ ap (keys_at r) {x = 0 + lane} {y = lane}
+    (omega arith))
     ∙ key_reach (lane_items r lane) count (sample_count r)
 
 -- ---- words
@@ -91,6 +93,41 @@ each_session Q cursors (w ∷ views) each session v is =
     (λ at u there. each_session Q (λ seat. cursors (suc seat)) views
     (λ seat x p found reads. each (suc seat) x p found reads) at u there) session v is
 
+-- ---- loads
+
+first_loads : (n : ℕ) (role : Role) (others : List (List ℕ)) →
+    ((p : ReaderView) → role ≡ Reads p → length p.loads ≡ n) →
+    ((session : ℕ) (counts : List ℕ) → slice_get others session ≡ Some counts → length counts ≡ n) →
+    (session : ℕ) (counts : List ℕ) → slice_get (with_loads role others) session ≡ Some counts →
+    length counts ≡ n
+first_loads n (Reads p) others first later zero counts is =
+    sym (ap (λ o. length (unwrap_or o counts)) is) ∙ first p refl
+first_loads n (Reads p) others first later (suc session) counts is = later session counts is
+first_loads n (Raises p) others first later session counts is = later session counts is
+
+-- each session has a number of loads of each lane
+each_loads : (n : ℕ) (views : List (PassView Ledger Subject)) →
+    EachReader views (λ _ p. length p.loads ≡ n) →
+    (session : ℕ) (counts : List ℕ) → slice_get (loads_of views) session ≡ Some counts → length counts ≡ n
+each_loads n [] each session counts is = absurd (let bad : ⊥ = cc in bad)
+each_loads n (w ∷ views) each session counts is =
+    first_loads n w.role (loads_of views) (λ p reads. each 0 w refl p reads)
+    (λ at others there. each_loads n views
+    (λ seat x found p reads. each (suc seat) x found p reads) at others there) session counts is
+
+many_first : (cursor : ℕ) (role : Role) (loads : List (List ℕ)) (others : List View) →
+    length loads ≡ length others →
+    length (with_loads role loads) ≡ length (with_session cursor role others)
+many_first cursor (Reads p) loads others many = ap suc many
+many_first cursor (Raises p) loads others many = many
+
+many_loads : (cursors : ℕ → ℕ) (views : List (PassView Ledger Subject)) →
+    length (loads_of views) ≡ length (sessions_of cursors views)
+many_loads cursors [] = refl
+many_loads cursors (w ∷ views) =
+    let others : ℕ → ℕ = λ seat. cursors (suc seat) in
+    many_first (cursors 0) w.role (loads_of views) (sessions_of others views) (many_loads others views)
+
 -- ---- the law
 
 pub shows : ShowsCores
@@ -115,9 +152,11 @@ shows r limits opening s cursors p named rule within many =
         words = λ lane. ⊎_elim
             (λ (l : lane < n). let a = first_words n s.words lane l in let b = rule.reaches.words lane l in
             let e = reached lane l in omega (arith, a, b, e))
-            (λ (l : n ≤ lane). let none = no_word (take n s.words) lane (omega (arith, long, l)) in omega (arith, none))
+            (λ (l : n ≤ lane). let none = no_word (take n s.words) lane (omega (arith, long, l)) in
+            omega (arith, none))
             (cases_lt lane n);
-        read = λ session lane v is. each_session (λ w. slice_index w.words lane ≤ slice_index (take n s.words) lane)
+        read = λ session lane v is. each_session
+            (λ w. slice_index w.words lane ≤ slice_index (take n s.words) lane)
             cursors s.views
             (λ seat w q at reads. ⊎_elim
             (λ (l : lane < n). let a = first_words n s.words lane l in
@@ -134,4 +173,6 @@ shows r limits opening s cursors p named rule within many =
             (λ seat w q at reads. rule.shape.reads seat w at q reads ∙ sym long) session v is;
         sessions = sym many;
       };
+      sessions = many_loads cursors s.views ∙ sym many;
+      loads = each_loads n s.views rule.shape.loads;
     }

@@ -1,5 +1,5 @@
 -- What contracts see of a chain as opening makes it.
-use Rattle.std.specs.Prelude.{◌≡◌, ℕ, ◌+◌, List, [], ◌∷◌, None}
+use Rattle.std.specs.Prelude.{◌≡◌, ℕ, ◌+◌, List, [], ◌∷◌, All, None}
 use Rattle.event_detect.specs.declared.limits.Limits.{Limits}
 use Rattle.interval_ledger.specs.declared.ledger.Ledger.{Ledger}
 use Rattle.interval_ledger.specs.declared.subject.Subject.{Subject}
@@ -67,6 +67,10 @@ module _ {g : Ghosts Ledger Subject} where
   AreFreshSeats chain r limits lane [] = Unit {0}
   AreFreshSeats chain r limits lane (s ∷ seats) =
       IsFreshSeat chain r limits lane s × AreFreshSeats chain r limits (lane + 1) seats
+
+  -- each of these seats belongs to the chain and is idle
+  abbrev pub AreReady : ChainOf Ledger Subject → List (SeatOf Ledger g) → Type 0
+  AreReady chain seats = All (λ s. IsSeatOf chain s × IsSeatIdle s) seats
 
   -- a session that has done nothing
   pub record IsFreshSession (chain : ChainOf Ledger Subject) (r : Recorded) (limits : Limits)

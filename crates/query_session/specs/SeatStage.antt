@@ -21,8 +21,8 @@ MayPost {V} reach name stage of lane given =
     (u : V) → ledger_in stage ≡ Some u → (name u ≡ of) × (reach u lane ≡ given)
 
 -- a holding seat has measured these
-abbrev pub HasMeasured : {V : Type 0} → SeatStage V → List LaneItem → List LaneItem → Type 0
-HasMeasured {V} stage measured next = (u : V) → ledger_in stage ≡ Some u → measured ≡ next
+abbrev pub HasMeasured : {V : Type 0} → SeatStage V → AheadView → List LaneItem → Type 0
+HasMeasured {V} stage ahead next = (u : V) → ledger_in stage ≡ Some u → ahead.measured ≡ next
 
 -- a posted seat has the next item measured, if there is one
 abbrev pub IsReady : {V : Type 0} → SeatStage V → AheadView → Type 0

@@ -1,8 +1,8 @@
 -- The subject: what the table of a chain shows of the core, as a law. The counts and the mark are the
--- ledger's; the words, the turn and the stop word are the table's; what a session has read is its pass's. A
--- cursor, and what a lane or a session is at, stand in seats and sessions alone: the law holds whatever they
--- are.
-use Rattle.std.specs.Prelude.{◌≡◌, ℕ, ◌≤◌, ◌==◌, List, [], ◌∷◌, length, take, suc, Option, Some}
+-- ledger's; the words, the turn and the stop word are the table's; what a session has read, and how often, is
+-- its pass's. A cursor, and what a lane or a session is at, stand in seats and sessions alone: the law holds
+-- whatever they are.
+use Rattle.std.specs.Prelude.{◌≡◌, ℕ, ◌≤◌, ◌==◌, List, [], ◌∷◌, length, take, suc, slice_get, Option, Some}
 use mathlib.Core.Option.{some}
 use lib.ListN.{get_elem?}
 use Rattle.atomic_table.specs.Table.{State}
@@ -39,6 +39,17 @@ sessions_of cursors [] = []
 sessions_of cursors (v ∷ views) =
     with_session (cursors 0) v.role (sessions_of (λ seat. cursors (suc seat)) views)
 
+-- how often a pass has loaded each lane's word, before others, if it is a session's
+abbrev pub with_loads : Role → List (List ℕ) → List (List ℕ)
+with_loads (Reads p) others = p.loads ∷ others
+with_loads (Raises p) others = others
+
+-- how often the sessions have loaded each lane's word, in the order of their seats. No answer of the core
+-- depends on it, so it is no part of the core
+abbrev pub loads_of : List (PassView Ledger Subject) → List (List ℕ)
+loads_of [] = []
+loads_of (v ∷ views) = with_loads v.role (loads_of views)
+
 -- the core that a table of so many lanes shows, where the ledger is this one, for these cursors and phases
 abbrev pub core_shown : ℕ → Table → Ledger → (ℕ → ℕ) → Phases → Core
 core_shown n s u cursors p = record {
@@ -52,9 +63,10 @@ core_shown n s u cursors p = record {
 }
 
 -- the ledger, at home while the turn is free and else as its holder took it, and all passes are of the
--- recording and the limits; each lane's pass has the lane's word; and the facts of every core hold of the
--- core that is shown
-pub record ShowsCore (r : Recorded) (limits : Limits) (s : Table) (cursors : ℕ → ℕ) (p : Phases) : Type 0 where
+-- recording and the limits; each lane's pass has the lane's word; the facts of every core hold of the core
+-- that is shown; and each of its sessions has a number of loads of each lane
+pub record ShowsCore (r : Recorded) (limits : Limits) (s : Table) (cursors : ℕ → ℕ) (p : Phases)
+    : Type 0 where
   pub ledger : Ledger
   pub named : subject_of ledger ≡ subject r limits
   pub names : EachPass s.views (λ _ v. v.name ≡ subject r limits)
@@ -63,6 +75,9 @@ pub record ShowsCore (r : Recorded) (limits : Limits) (s : Table) (cursors : ℕ
   pub raised : EachLane s.views (λ _ lane. lane.word ≡ word_of s lane.lane)
   pub sound : IsSound (measured_of r limits) (core_shown (lane_count r) s ledger cursors p).numbers
       (length p.sessions)
+  pub sessions : length (loads_of s.views) ≡ length p.sessions
+  pub loads : (session : ℕ) (counts : List ℕ) → slice_get (loads_of s.views) session ≡ Some counts →
+      length counts ≡ lane_count r
 
 -- a table of a recording and limits that meets the rule of the words shows a core
 abbrev pub ShowsCores : Type 0

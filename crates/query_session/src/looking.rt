@@ -1,7 +1,8 @@
 // A session looks, takes the turn and reads.
 ghost use Rattle.std.specs.Prelude.{◌≡◌};
 ghost use Rattle.query_session.specs.Reading.{cursor_after};
-ghost use Rattle.query_session.specs.Session.{Grabs, IsComplete, IsHolding, IsIdle, IsLooked, IsSessionOf, Looks, NextAnswers, ReadsOnce};
+ghost use Rattle.query_session.specs.Session.{Grabs, IsComplete, IsHolding, IsIdle, IsLooked};
+ghost use Rattle.query_session.specs.Session.{IsSessionOf, Looks, NextAnswers, ReadsOnce};
 
 use crate::answer::{Grab, Look, Next};
 use crate::chain::Chain;

@@ -5,7 +5,9 @@ ghost use Rattle.interval_ledger.specs.Ledger.{subject_of};
 ghost use Rattle.lanes.specs.Lane.{lane_count};
 ghost use Rattle.progress_words.specs.Turn.{IfStillHeld, IfValue};
 ghost use Rattle.progress_words.specs.Words.{AreFreshLanes, IsNumber, lane_view, opening_of, read_view};
-ghost use Rattle.query_session.specs.Chain.{AreFreshSeats, IsFreshLaneOf, IsFreshReaderOf, IsFreshSession, IsOpeningOf, IsSeatFrom, IsSessionFrom, limits_at};
+ghost use Rattle.query_session.specs.Chain.{AreFreshSeats, AreReady, IsFreshLaneOf, IsFreshReaderOf};
+ghost use Rattle.query_session.specs.Chain.{IsFreshSession, IsOpeningOf, IsSeatFrom, IsSessionFrom};
+ghost use Rattle.query_session.specs.Chain.{limits_at};
 
 use crate::ahead::Ahead;
 use crate::chain::{Chain, ChainOf};
@@ -29,6 +31,7 @@ impl ChainOf<Ledger> {
         requires { IsInOrder limits.now }
         ensures count { IfOk result (λ t. vec_len t.1 ≡ lane_count recording.now) }
         ensures seats { IfOk result (λ t. AreFreshSeats t.0 recording.now limits.now 0 t.1.items) }
+        ensures ready { IfOk result (λ t. AreReady t.0 t.1.items) }
         ensures session { IfOk result (λ t. IsFreshSession t.0 recording.now limits.now t.2) }
     {
         let lanes = 2 * recording.channels() + 1;

@@ -1,7 +1,8 @@
 // A lane's seat takes the turn, posts its next items and raises its word.
 ghost use Rattle.std.specs.Prelude.{◌≡◌, ◌≤◌, min};
 ghost use Rattle.progress_words.specs.Words.{lane_of};
-ghost use Rattle.query_session.specs.LaneSeat.{IsMeasured, IsSameSeat, IsSeatHolding, IsSeatIdle, IsSeatOf, IsSeatPosted, Posts, Raises, Steps, Takes};
+ghost use Rattle.query_session.specs.LaneSeat.{IsMeasured, IsSameSeat, IsSeatHolding, IsSeatIdle};
+ghost use Rattle.query_session.specs.LaneSeat.{IsSeatOf, IsSeatPosted, Posts, Raises, Steps, Takes};
 
 use crate::chain::Chain;
 use crate::lane_answer::{Lane, Taken};

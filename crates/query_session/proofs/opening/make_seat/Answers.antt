@@ -19,12 +19,15 @@ invariant_of-result c =
       holds = fresh.held;
       place = ap (λ (x : Role). (lane_part x).lane) fresh.role;
       inside = subst (λ (x : Recorded). lane < lane_count x) (sym fresh.recording) c.requires.inside;
-      bounds = subst (λ (x : Recorded). HasBounds x v.name.limits) (sym fresh.recording) (has_bounds r v.name.limits c.len.ensures.conditions);
+      bounds = subst (λ (x : Recorded). HasBounds x v.name.limits) (sym fresh.recording)
+          (has_bounds r v.name.limits c.len.ensures.conditions);
       end = c.len.ensures.value ∙ ap (λ (x : Recorded). sample_count x) (sym fresh.recording);
-      given = ap (λ (x : Role). (lane_part x).reach_given) fresh.role ∙ ap (λ (x : Recorded). reach x lane 0) (sym fresh.recording);
+      given = ap (λ (x : Role). (lane_part x).reach_given) fresh.role
+          ∙ ap (λ (x : Recorded). reach x lane 0) (sym fresh.recording);
       counted = omega arith;
       low = subst (λ (x : Role). (lane_part x).word ≤ (lane_part x).reach_given) (sym fresh.role) none;
-      left = (λ i. ahead.measured i ++ ahead.unmeasured i) ∙ ap (λ (x : Recorded). lane_items x lane) (sym fresh.recording);
+      left = (λ i. ahead.measured i ++ ahead.unmeasured i) ∙ ap (λ (x : Recorded). lane_items x lane)
+          (sym fresh.recording);
       may = λ u e. absurd (no_ledger u e);
       measured = λ u e. absurd (no_ledger u e);
       ready = λ k e none_measured. absurd (not_posted k e);

@@ -14,15 +14,23 @@ loop-pass-preserved c =
     let value = opening_of chain.words in let limits = limits_at chain in
     let fresh = subst (AreFreshLanes chain.words value lane) c.in-Some.ensures.steps.0 h.passes in
     let made = c.in_ok-seat.ensures in
-    let view = ap (λ s. s.me.0) made.pass_is ∙ (fresh.0.1 ∙ lane_first r limits value lane c.requires.opening) in
+    let view = ap (λ s. s.me.0) made.pass_is
+    ∙ (fresh.0.1 ∙ lane_first r limits value lane c.requires.opening) in
     let pushed = c.in_ok-push.ensures.items in let size = h.size in let left = h.left in
     let long = length-append c.loop-pass.seats.items (seat ∷ []) in
     let one = ap length c.in-Some.ensures.steps.0 in
-    let is : IsFreshSeat chain r limits lane seat = record { mine = ap (λ s. s.table_id) made.pass_is ∙ fresh.0.0; view = view; lane_is = made.lane_is; count = made.count; idle = made.idle } in record {
+    let is : IsFreshSeat chain r limits lane seat = record {
+      mine = ap (λ s. s.table_id) made.pass_is ∙ fresh.0.0;
+      view = view;
+      lane_is = made.lane_is;
+      count = made.count;
+      idle = made.idle;
+    } in record {
       can = tt;
       ends = tt;
       size = ap length pushed ∙ omega arith;
       left = omega arith;
       passes = fresh.1;
-      seats = rw pushed (seats_snoc chain r limits 0 c.loop-pass.seats.items seat h.seats (subst (λ (j : ℕ). IsFreshSeat chain r limits j seat) (omega arith) is));
+      seats = rw pushed (seats_snoc chain r limits 0 c.loop-pass.seats.items seat h.seats
+          (subst (λ (j : ℕ). IsFreshSeat chain r limits j seat) (omega arith) is));
     }

@@ -17,8 +17,10 @@ invariant_of-result c =
       holds = fresh.held;
       looked = none_seen (reader_part v.role).words_read;
       may = none_held v.name (reader_part v.role).words_read;
-      lanes = ap (λ (x : Role). length (reader_part x).words_read) fresh.role ∙ (zeros_long (lane_count r) ∙ ap (λ (x : Recorded). lane_count x) (sym fresh.recording));
-      bounds = subst (λ (x : Recorded). HasBounds x v.name.limits) (sym fresh.recording) (has_bounds r v.name.limits c.len.ensures.conditions);
+      lanes = ap (λ (x : Role). length (reader_part x).words_read) fresh.role
+          ∙ (zeros_long (lane_count r) ∙ ap (λ (x : Recorded). lane_count x) (sym fresh.recording));
+      bounds = subst (λ (x : Recorded). HasBounds x v.name.limits) (sym fresh.recording)
+          (has_bounds r v.name.limits c.len.ensures.conditions);
       end = c.len.ensures.value ∙ ap (λ (x : Recorded). sample_count x) (sym fresh.recording);
       within = omega arith;
     }

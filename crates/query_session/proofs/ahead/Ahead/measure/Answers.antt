@@ -8,4 +8,5 @@ returns-clause-left c = c.refill.ensures.left ∙ ap items_left c.self.view_is
 
 pub returns-clause-measured : goal.returns-clause-measured
 returns-clause-measured c =
-    is_front 65 _ _ _ c.refill.ensures.left c.refill.ensures.size ∙ ap (λ (a : AheadView). take 65 (items_left a)) c.self.view_is
+    is_front 65 _ _ _ c.refill.ensures.left c.refill.ensures.size
+    ∙ ap (λ (a : AheadView). take 65 (items_left a)) c.self.view_is

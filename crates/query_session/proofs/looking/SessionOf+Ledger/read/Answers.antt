@@ -19,7 +19,8 @@ read_ledger-next-requires-clause-within c =
     let v = s.pass.seat.me.0 in
     let h = c.in-Holding in
     let was = sym c.replace-stage.ensures.value ∙ h.is in
-    within_reaches h.ledger v.name (reader_part v.role).words_read h.lane h.word (s.may h.ledger (ap held_in was)) s.lanes (s.looked h.lane h.word (ap seen_in was))
+    within_reaches h.ledger v.name (reader_part v.role).words_read h.lane h.word
+    (s.may h.ledger (ap held_in was)) s.lanes (s.looked h.lane h.word (ap seen_in was))
 
 pub give_reader-requires-clause-may : goal.give_reader-requires-clause-may
 give_reader-requires-clause-may c =
@@ -27,7 +28,8 @@ give_reader-requires-clause-may c =
     let v = s.pass.seat.me.0 in
     let h = c.in-Holding in
     let was = sym c.replace-stage.ensures.value ∙ h.is in
-    may_give _ h.ledger c.read_ledger-next.new.ledger v (s.holds ∙ ap held_in was) c.read_ledger-next.ensures.keeps
+    may_give _ h.ledger c.read_ledger-next.new.ledger v (s.holds ∙ ap held_in was)
+    c.read_ledger-next.ensures.keeps
 
 pub invariant_of-self : goal.invariant_of-self
 invariant_of-self c =
@@ -38,16 +40,24 @@ invariant_of-self c =
     let named = (s.may h.ledger (ap held_in was)).0 in
     let new = c.give_reader.new.pass in let now = c.give_reader.ensures.1 in
     let idle = c.replace-stage.ensures.after in
-    let within = subst (λ (n : Subject). s.cursor ≤ length (sequential n.recording n.limits)) (sym named) s.within in
-    let moved = cursor_within h.ledger c.read_ledger-next.new.ledger h.lane h.word s.cursor c.read_ledger-next.result within c.read_ledger-next.ensures.answers in record {
+    let within = subst (λ (n : Subject). s.cursor ≤ length (sequential n.recording n.limits))
+    (sym named) s.within in
+    let moved = cursor_within h.ledger c.read_ledger-next.new.ledger h.lane h.word s.cursor
+    c.read_ledger-next.result within c.read_ledger-next.ensures.answers in record {
       holds = ap (λ w. w.held_value) now ∙ ap held_in (sym idle);
-      looked = subst (λ p. HasSeen p (reader_part new.seat.me.0.role).words_read) (sym idle) (none_seen (reader_part new.seat.me.0.role).words_read);
-      may = subst (λ p. MayAdvance {V = Ledger} {N = Subject} reach_of subject_of p new.seat.me.0.name (reader_part new.seat.me.0.role).words_read) (sym idle) (none_held new.seat.me.0.name (reader_part new.seat.me.0.role).words_read);
-      lanes = ap (λ w. length (reader_part w.role).words_read) now ∙ (s.lanes ∙ ap (λ w. lane_count w.name.recording) (sym now));
+      looked = subst (λ p. HasSeen p (reader_part new.seat.me.0.role).words_read) (sym idle)
+          (none_seen (reader_part new.seat.me.0.role).words_read);
+      may = subst (λ p. MayAdvance {V = Ledger} {N = Subject} reach_of subject_of p new.seat.me.0.name
+          (reader_part new.seat.me.0.role).words_read) (sym idle)
+          (none_held new.seat.me.0.name (reader_part new.seat.me.0.role).words_read);
+      lanes = ap (λ w. length (reader_part w.role).words_read) now
+          ∙ (s.lanes ∙ ap (λ w. lane_count w.name.recording) (sym now));
       bounds = subst (λ w. HasBounds w.name.recording w.name.limits) (sym now) s.bounds;
       end = s.end ∙ ap (λ w. sample_count w.name.recording) (sym now);
-      within = subst (λ k. k ≤ length (sequential new.seat.me.0.name.recording new.seat.me.0.name.limits)) (sym c.move_on-self.ensures)
-          (subst (λ (n : Subject). cursor_after s.cursor c.read_ledger-next.result ≤ length (sequential n.recording n.limits)) (named ∙ ap (λ w. w.name) (sym now)) moved);
+      within = subst (λ k. k ≤ length (sequential new.seat.me.0.name.recording new.seat.me.0.name.limits))
+          (sym c.move_on-self.ensures)
+          (subst (λ (n : Subject). cursor_after s.cursor c.read_ledger-next.result ≤ length
+          (sequential n.recording n.limits)) (named ∙ ap (λ w. w.name) (sym now)) moved);
     }
 
 pub returns-clause-reads : goal.returns-clause-reads
@@ -67,6 +77,10 @@ returns-clause-reads c =
       view = now;
       idle = c.replace-stage.ensures.after;
       cursor = c.move_on-self.ensures;
-      ended = λ e. subst (λ w. (k : ℕ) → k < length (reader_part w.role).words_read → slice_index (reader_part w.role).words_read k ≡ sample_count v.name.recording) (sym now)
-          (all_at_end h.ledger c.read_ledger-next.new.ledger v.name (reader_part v.role).words_read h.lane h.word s.cursor c.read_ledger-next.result s.bounds (s.may h.ledger (ap held_in was)) (s.looked h.lane h.word (ap seen_in was)) c.read_ledger-next.ensures.answers e);
+      ended = λ e. subst (λ w. (k : ℕ) → k < length (reader_part w.role).words_read → slice_index
+          (reader_part w.role).words_read k ≡ sample_count v.name.recording) (sym now)
+          (all_at_end h.ledger c.read_ledger-next.new.ledger v.name
+          (reader_part v.role).words_read h.lane h.word s.cursor c.read_ledger-next.result s.bounds
+          (s.may h.ledger (ap held_in was)) (s.looked h.lane h.word (ap seen_in was))
+          c.read_ledger-next.ensures.answers e);
     }

@@ -17,7 +17,8 @@ post-requires-clause-next c =
     let was = sym c.replace-stage.ensures.value ∙ c.in-Holding.is in
     let may = s.may t (ap ledger_in was) in
     let held = held_count v t s.lane s.count s.bounds may.0 may.1 s.given s.inside s.counted in
-    are_next t v.name.recording s.lane s.count s.ahead.measured s.ahead.unmeasured (ap (λ (n : Subject). n.recording) may.0) held s.left
+    are_next t v.name.recording s.lane s.count s.ahead.measured s.ahead.unmeasured
+    (ap (λ (n : Subject). n.recording) may.0) held s.left
 
 pub give_lane-requires-clause-may : goal.give_lane-requires-clause-may
 give_lane-requires-clause-may c =
@@ -29,7 +30,8 @@ give_lane-requires-clause-may c =
     let inside = s.inside in
     let sized = t.posted.sized in
     let named = ap (λ (n : Subject). lane_count n.recording) may.0 in
-    may_give_lane _ t c.post.new.ledger v s.lane _ s.bounds may.0 s.place (s.holds ∙ ap ledger_in was) c.post.ensures.posts (omega arith)
+    may_give_lane _ t c.post.new.ledger v s.lane _ s.bounds may.0 s.place
+    (s.holds ∙ ap ledger_in was) c.post.ensures.posts (omega arith)
 
 pub invariant_of-self : goal.invariant_of-self
 invariant_of-self c =
@@ -55,10 +57,13 @@ invariant_of-self c =
     let counted = s.counted in let low = s.low in let given = s.given in
     let few : k ≤ length s.ahead.measured = omega arith in
     let few_posted : k ≤ 64 = omega arith in
-    let reached : reach_of u s.lane ≡ reach r s.lane (s.count + k) = posted_reach r t u s.lane s.count k c.post.ensures.posts (omega arith) held (ap (λ (n : Subject). n.recording) may.0) in
+    let reached : reach_of u s.lane ≡ reach r s.lane (s.count + k) =
+    posted_reach r t u s.lane s.count k c.post.ensures.posts (omega arith) held
+    (ap (λ (n : Subject). n.recording) may.0) in
     let part = ap (λ w. lane_part w.role) here ∙ gave_lane u v s.lane s.place in
     let rises = s.bounds.rises s.lane s.count (s.count + k) (omega arith) in
-    let given_now : (lane_part new.seat.me.0.role).reach_given ≡ reach r s.lane (s.count + k) = ap (λ p. p.reach_given) part ∙ reached in
+    let given_now : (lane_part new.seat.me.0.role).reach_given ≡ reach r s.lane (s.count + k) =
+    ap (λ p. p.reach_given) part ∙ reached in
     let word_now : (lane_part new.seat.me.0.role).word ≡ (lane_part v.role).word = ap (λ p. p.word) part in
     let after = c.post.ensures.measured in let rest = c.post.ensures.unmeasured in record {
       holds = ap (λ w. w.held_value) here;
@@ -67,12 +72,16 @@ invariant_of-self c =
       bounds = subst (λ (n : Subject). HasBounds n.recording n.limits) (sym name) s.bounds;
       end = s.end ∙ ap (λ (n : Subject). sample_count n.recording) (sym name);
       given = given_now ∙ ap (λ (n : Subject). reach n.recording s.lane (s.count + k)) (sym name);
-      counted = subst (λ (n : Subject). s.count + k ≤ length (lane_items n.recording s.lane)) (sym name) (omega arith);
+      counted = subst (λ (n : Subject). s.count + k ≤ length (lane_items n.recording s.lane)) (sym name)
+          (omega arith);
       low = omega arith;
-      left = (λ i. after i ++ rest i) ∙ (left_after k s.count s.ahead.measured s.ahead.unmeasured (lane_items r s.lane) few s.left ∙ ap (λ (n : Subject). drop (s.count + k) (lane_items n.recording s.lane)) (sym name));
+      left = (λ i. after i ++ rest i)
+          ∙ (left_after k s.count s.ahead.measured s.ahead.unmeasured (lane_items r s.lane) few s.left
+          ∙ ap (λ (n : Subject). drop (s.count + k) (lane_items n.recording s.lane)) (sym name));
       may = λ z e. absurd (no_ledger z e);
       measured = λ z e. absurd (no_ledger z e);
-      ready = λ j e none. rest ∙ all_measured k s.count s.ahead.measured s.ahead.unmeasured (lane_items r s.lane) s.left measured few_posted (sym after ∙ none);
+      ready = λ j e none. rest ∙ all_measured k s.count s.ahead.measured s.ahead.unmeasured
+          (lane_items r s.lane) s.left measured few_posted (sym after ∙ none);
     }
 
 pub overflow_add-self : goal.overflow_add-self

@@ -7,6 +7,11 @@ pub returns-in_default : goal.returns-in_default
 returns-in_default g c = let n = c.next-in-loop in let h = c.loop.invariant in record {
   mine = n.ensures.mine;
   idle = n.ensures.idle;
-  answers = record { last = c.loop.self; before = h.on; answers = n.ensures.answers; settled = settled n.result c.in_default.not-Withheld c.in_default.not-Busy };
+  answers = record {
+    last = c.loop.self;
+    before = h.on;
+    answers = n.ensures.answers;
+    settled = settled n.result c.in_default.not-Withheld c.in_default.not-Busy;
+  };
   cursor = n.ensures.cursor ∙ ap (λ k. cursor_after k n.result) h.on.cursor;
 }
