@@ -1,3 +1,3 @@
-mod OpeningLaws
 mod PrintedLaws
+mod RangeLaws
 mod RowLaws

@@ -2,7 +2,7 @@
 ghost use Rattle.std.specs.Prelude.{IfOk};
 ghost use Rattle.event_detect.specs.Threshold.{IsInOrder};
 ghost use Rattle.lane_reports.specs.OpenedChain.{IsReady};
-ghost use Rattle.lane_workers.specs.Running.{AreReady};
+ghost use Rattle.query_session.specs.Chain.{AreReady};
 
 use event_detect::Limits;
 use pq_base::{OutOfMemory, Recording};

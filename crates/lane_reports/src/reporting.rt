@@ -3,10 +3,11 @@ ghost use Rattle.std.specs.Prelude.{◌≡◌};
 ghost use Rattle.std.specs.Io.KnownBytes.{Appends};
 ghost use Rattle.event_detect.specs.Threshold.{IsInOrder};
 ghost use Rattle.lane_reports.specs.PrintedReport.{IsReportPrinted, IsRunPrinted, since};
-ghost use Rattle.lane_workers.specs.Running.{AreReady, IsAlone, recording_of};
+ghost use Rattle.lane_workers.specs.Running.{IsAlone, recording_of};
 ghost use Rattle.pq_course.specs.TopCall.{writing_of};
 ghost use Rattle.pq_report.specs.ReportText.{header, rows_text};
 ghost use Rattle.pq_base.specs.Recorded.{IsRecording};
+ghost use Rattle.query_session.specs.Chain.{AreReady};
 ghost use Rattle.query_session.specs.Session.{IsIdle, IsSessionOf, result_of};
 
 use crate::opening::open_chain;
@@ -78,9 +79,10 @@ fn print_rows<R: Threads + Wait + Sync, O: Sink, G: Gate + Sync, B: Start>(
     let Ok((chain, seats, mut session)) = open_chain(alloc, recording, limits) else {
         return Status::OutOfMemory;
     };
-    let mut printer: SinkPrinter<'_, O, B> = SinkPrinter {
-        alloc,
+    let mut row = Vec::new(alloc);
+    let mut printer: SinkPrinter<'_, '_, O, B> = SinkPrinter {
         clock: clock_of(recording),
+        row: &mut row,
         out,
         start: PhantomData,
     };
@@ -101,7 +103,7 @@ fn run_printing<R: Threads + Wait + Sync, O: Sink, G: Gate + Sync, B: Start>(
     seats: Vec<LaneSeat<'_>>,
     session: &mut Session,
     gate: &G,
-    printer: &mut SinkPrinter<'_, O, B>,
+    printer: &mut SinkPrinter<'_, '_, O, B>,
 ) -> Ran
     requires seats { AreReady chain.now seats.items }
     requires mine { IsSessionOf chain.now session.old }

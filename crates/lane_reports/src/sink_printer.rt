@@ -6,7 +6,6 @@ use lane_workers::{PrintFault, Printer};
 use pq_base::Sink;
 use pq_items::Item;
 use pq_time::Clock;
-use std::alloc::Global;
 use std::marker::{Brand, PhantomData};
 
 // What a printer over a sink was made with. No value of it is made.
@@ -34,15 +33,16 @@ impl Start for Brand {
 
 // A printer of rows to a sink.
 #[derive(Drop)]
-pub(crate) struct SinkPrinter<'a, O: Sink, B: Start> {
-    pub(crate) alloc: Global,
+pub(crate) struct SinkPrinter<'a, 'r, O: Sink, B: Start> {
     pub(crate) clock: Clock,
+    // Room for the row that is written. A struct that held it would tell nothing of the sink after its end.
+    pub(crate) row: &'r mut Vec<u8>,
     pub(crate) out: &'a mut O,
     pub(crate) start: PhantomData<B>,
     ghost begins: { IsClock clock },
 }
 
-impl<'a, O: Sink, B: Start> Printer for SinkPrinter<'a, O, B> {
+impl<'a, 'r, O: Sink, B: Start> Printer for SinkPrinter<'a, 'r, O, B> {
     ghost use Rattle.std.specs.Io.KnownBytes.{Appends};
     ghost use Rattle.pq_base.specs.Outside.{AppendsFront};
     ghost use Rattle.pq_report.specs.ReportText.{rows_text};
@@ -60,7 +60,7 @@ impl<'a, O: Sink, B: Start> Printer for SinkPrinter<'a, O, B> {
     ghost counts_each = { O.counts_each };
 
     fn print(&mut self, item: &Item) -> Result<(), PrintFault> {
-        write_row(self.alloc, &self.clock, item, self.out)
+        write_row(self.row, &self.clock, item, self.out)
     }
 
     fn faults(&self) -> u64 {

@@ -8,9 +8,9 @@ ghost use Rattle.pq_time.specs.Time.{IsClock};
 use lane_workers::PrintFault;
 use pq_base::{Failed, OutOfMemory, Sink, write_all};
 use pq_items::Item;
-use pq_report::{header, row};
+use pq_report::{header, push_row};
 use pq_time::Clock;
-use std::alloc::Global;
+use std::alloc::{AllocError, Global};
 
 // Writes the header row.
 pub(crate) fn write_header<O: Sink>(alloc: Global, out: &mut O) -> Result<(), PrintFault>
@@ -22,9 +22,9 @@ pub(crate) fn write_header<O: Sink>(alloc: Global, out: &mut O) -> Result<(), Pr
     }
 }
 
-// Writes the row of an item.
+// Writes the row of an item. The buffer, which holds it for that time, may have anything before.
 pub(crate) fn write_row<O: Sink>(
-    alloc: Global,
+    buffer: &mut Vec<u8>,
     clock: &Clock,
     item: &Item,
     out: &mut O,
@@ -33,9 +33,10 @@ pub(crate) fn write_row<O: Sink>(
     requires within { IsItemInRange item.now }
     ensures { HandsOver (item_row clock.now item.now) (writing_of O.Sink out.old out.new) result }
 {
-    match row(alloc, clock, item) {
-        Ok(text) => write_bytes(text.bytes(), out),
-        Err(OutOfMemory) => Err(PrintFault::OutOfMemory),
+    buffer.clear();
+    match push_row(buffer, clock, item) {
+        Ok(()) => write_bytes(buffer.as_slice(), out),
+        Err(AllocError) => Err(PrintFault::OutOfMemory),
     }
 }
 

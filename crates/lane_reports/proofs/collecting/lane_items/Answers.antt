@@ -1,5 +1,5 @@
 use Rattle.std.proofs.Common.{List, All, subst, sym}
-use Rattle.lane_reports.proofs.OpeningLaws.{result_ranges}
+use Rattle.lane_reports.proofs.RangeLaws.{result_ranges}
 use Rattle.pq_items.specs.ItemRange.{IsItemInRange}
 use Rattle.pq_items.specs.declared.item.Item.{Item}
 use Rattle.lane_reports.proofs.collecting.lane_items.Goals as goal
