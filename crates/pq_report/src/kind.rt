@@ -33,7 +33,8 @@ pub(crate) const KINDS: [ItemKind; 8] = [
 impl ItemKind {
     ghost use Rattle.std.specs.Prelude.{◌≡◌};
     ghost use Rattle.pq_items.specs.ItemTable.{rank_of};
-    ghost use Rattle.pq_report.specs.ReportReading.{has_ticks, is_channel_of, is_count_of, kind_read, mark_read};
+    ghost use Rattle.pq_report.specs.ReportReading.{has_ticks, is_channel_of, is_count_of, kind_read};
+    ghost use Rattle.pq_report.specs.ReportReading.{mark_read};
     ghost use Rattle.pq_report.specs.ReportText.{is_event, kind_of, kind_word, mark_word};
 
     pub(crate) fn of(item: &Item) -> ItemKind

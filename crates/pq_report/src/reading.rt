@@ -1,7 +1,8 @@
 // The items that a text reports.
 ghost use Rattle.std.specs.Prelude.{◌≡◌, ◌≤◌, All, IfOk, length, map};
 ghost use Rattle.pq_items.specs.ItemRange.{IsItemInRange};
-ghost use Rattle.pq_report.specs.ReportReading.{GivesItems, fields_read, header_read, in_row, names_read, report_read, rows_read};
+ghost use Rattle.pq_report.specs.ReportReading.{GivesItems, fields_read, header_read, in_row, names_read};
+ghost use Rattle.pq_report.specs.ReportReading.{report_read, rows_read};
 ghost use Rattle.pq_time.specs.Time.{IsClock};
 ghost use Rattle.pq_words.specs.Text.{parted_at};
 

@@ -1,6 +1,8 @@
 // The item of a row, by its ten fields.
 ghost use Rattle.std.specs.Prelude.{◌≡◌, ◌≤◌, ℕ, true, false, ℤ, Option, Some, IfSome};
-ghost use Rattle.pq_report.specs.ReportReading.{field_list, fields_read, is_channel_of, is_count_of, is_place, item_behind, item_with, number_read, passing, span_of, tick_read};
+ghost use Rattle.pq_report.specs.ReportReading.{field_list, fields_read, is_channel_of, is_count_of};
+ghost use Rattle.pq_report.specs.ReportReading.{is_place, item_behind, item_with, number_read, passing};
+ghost use Rattle.pq_report.specs.ReportReading.{span_of, tick_read};
 ghost use Rattle.pq_report.specs.ReportText.{is_event};
 ghost use Rattle.pq_time.specs.Time.{IsClock};
 

@@ -1,7 +1,8 @@
 // The text of a whole report, into one buffer.
 ghost use Rattle.std.specs.Prelude.{◌≡◌, ◌≤◌, All, IfOk, IfSome, OnOk, decimal};
 ghost use Rattle.pq_items.specs.ItemRange.{IsItemInRange, IsTickInRange};
-ghost use Rattle.pq_report.specs.ReportText.{Pushes, before_commas, item_row, moment_fields, row_of, rows_text, span_fields, tick_text, value_fields};
+ghost use Rattle.pq_report.specs.ReportText.{Pushes, before_commas, item_row, moment_fields, row_of};
+ghost use Rattle.pq_report.specs.ReportText.{rows_text, span_fields, tick_text, value_fields};
 ghost use Rattle.pq_time.specs.Time.{IsClock};
 
 use crate::kind::ItemKind;
@@ -28,8 +29,8 @@ pub fn report(alloc: Global, clock: &Clock, items: &[Item]) -> Result<Text, OutO
     Ok(Text::new(text))
 }
 
-// Appends the row of an item.
-fn push_row(text: &mut Vec<u8>, clock: &Clock, item: &Item) -> Result<(), AllocError>
+/// Appends the row of an item to a text. Where there is no memory, a part of it may have been appended.
+pub fn push_row(text: &mut Vec<u8>, clock: &Clock, item: &Item) -> Result<(), AllocError>
     requires clock { IsClock clock.now }
     requires within { IsItemInRange item.now }
     ensures { Pushes result text.old text.new (item_row clock.now item.now) }
