@@ -1,5 +1,6 @@
 pub mod GeneratingLemmas
 pub mod MeasuringLemmas
+pub mod PrintingLemmas
 pub mod RecordingLemmas
 pub mod ReplayingLemmas
 pub mod SelectionLemmas

@@ -1,12 +1,12 @@
 -- The subject: the course of a measurement, whose job is the report of a recording (profile).
-use Rattle.std.specs.Prelude.{Result}
+use Rattle.std.specs.Prelude.{Result, Ok, Err}
 use Rattle.command_words.specs.Commands.{Measurement, measuring_view}
 use Rattle.command_words.specs.declared.command.Measuring.{Measuring}
 use Rattle.event_detect.specs.declared.limits.Limits.{Limits}
 use Rattle.pq_base.specs.Recorded.{Recorded}
 use Rattle.pq_course.specs.Judged.{goes_on}
 use Rattle.pq_course.specs.Parts.{IsRead}
-use Rattle.pq_course.specs.TopCall.{Reading}
+use Rattle.pq_course.specs.TopCall.{Call, Reading, IsTopCall}
 use Rattle.pq_course.specs.Verdict.{Job, Course, Ends}
 use Rattle.pq_report.specs.ReportText.{rows_text}
 use Rattle.pq_run.specs.RecordingFiles.{recording_course}
@@ -31,3 +31,12 @@ measuring_course m =
 -- the files of a measurement were read for its report
 abbrev pub IsReportRead : Measuring → Reading → Result Text Status → Type 0
 IsReportRead m r result = IsRead (measuring_course (measuring_view m)) r result
+
+-- the same of a recording that was read, with its limits: of its report
+abbrev pub report_read : Result (Limits × Recorded) Status → Result Text Status
+report_read (Ok m) = Ok (report_text m.1 m.0)
+report_read (Err s) = Err s
+
+-- the promises of a call that prints the report of a measurement
+abbrev pub IsReportCall : Measuring → Call → Status → Type 0
+IsReportCall m call s = IsTopCall (measuring_course (measuring_view m)) call s

@@ -1,8 +1,8 @@
 // A measurement: the report of a recording.
-ghost use Rattle.std.specs.Prelude.{IfErr, Ok};
+ghost use Rattle.std.specs.Prelude.{IfErr, IfOk, Ok};
 ghost use Rattle.event_detect.specs.Threshold.{IsInOrder, IsInRange};
-ghost use Rattle.pq_course.specs.TopCall.{reading_of};
-ghost use Rattle.pq_run.specs.Measuring.{IsReportRead, report_text};
+ghost use Rattle.pq_course.specs.TopCall.{call_of, reading_of};
+ghost use Rattle.pq_run.specs.Measuring.{IsReportCall, IsReportRead, report_read, report_text};
 ghost use Rattle.pq_run.specs.RecordingFiles.{Gives};
 ghost use Rattle.status_text.specs.Refusals.{IsRefusing};
 
@@ -10,13 +10,37 @@ use crate::recording_files::read_recording;
 use crate::settings::limits_of;
 use command_words::Measuring;
 use event_detect::Limits;
-use pq_base::{Recording, Shelf, Text};
+use lane_reports::lane_report;
+use lane_workers::Gate;
+use pq_base::{Recording, Shelf, Sink, Text};
 use pq_report::report;
 use pq_sequence::{clock_of, sequence};
 use status_text::Status;
 use std::alloc::Global;
+use std::sync::Wait;
+use std::thread::Threads;
 
-/// The report of a recording under settings, which are judged before any file is asked for.
+/// Prints the report of a recording under settings, each row as its item is given while a worker a lane
+/// measures. It may wait.
+pub fn print_report<R: Threads + Wait + Sync, K: Shelf, O: Sink, G: Gate + Sync>(
+    rt: &R,
+    alloc: Global,
+    measuring: &Measuring<'_>,
+    shelf: &mut K,
+    out: &mut O,
+    gate: &G,
+) -> Status
+    requires { IsInRange measuring.now.settings }
+    ensures { IsReportCall measuring.now
+        (call_of K.Shelf O.Sink shelf.old shelf.new out.old out.new) result }
+{
+    match read_measurement(alloc, measuring, shelf) {
+        Ok((limits, recording)) => lane_report(rt, alloc, &recording, &limits, out, gate),
+        Err(status) => status,
+    }
+}
+
+/// The report of a recording under settings.
 pub fn measured_report<K: Shelf>(
     alloc: Global,
     measuring: &Measuring<'_>,
@@ -25,9 +49,26 @@ pub fn measured_report<K: Shelf>(
     requires { IsInRange measuring.now.settings }
     ensures { IsReportRead measuring.now (reading_of K.Shelf shelf.old shelf.new) result }
 {
+    match read_measurement(alloc, measuring, shelf) {
+        Ok((limits, recording)) => recording_report(alloc, &recording, &limits),
+        Err(status) => Err(status),
+    }
+}
+
+// The limits of settings, which are judged before any file is asked for, and the recording of the files.
+fn read_measurement<K: Shelf>(
+    alloc: Global,
+    measuring: &Measuring<'_>,
+    shelf: &mut K,
+) -> Result<(Limits, Recording), Status>
+    requires { IsInRange measuring.now.settings }
+    ensures read { IsReportRead measuring.now (reading_of K.Shelf shelf.old shelf.new)
+        (report_read result) }
+    ensures order { IfOk result (λ m. IsInOrder m.0) }
+{
     let limits = limits_of(&measuring.settings)?;
     let recording = read_recording(alloc, measuring, shelf)?;
-    recording_report(alloc, &recording, &limits)
+    Ok((limits, recording))
 }
 
 // The report of a recording under limits. Its only error is want of memory.

@@ -1,47 +1,12 @@
-use Rattle.std.proofs.Common.{Ok, Err, inr, sym}
-use Rattle.command_words.specs.Commands.{Measurement, measuring_view}
-use Rattle.event_detect.specs.declared.limits.Limits.{Limits}
-use Rattle.pq_course.proofs.ReadingLemmas.{ends_refused, goes_on_good, is_err, quiet}
-use Rattle.pq_course.specs.TopCall.{Reading, reading_of}
-use Rattle.pq_run.proofs.RecordingLemmas.{judged_text, quiet_after}
-use Rattle.pq_run.specs.Measuring.{report_course, report_text}
-use Rattle.pq_run.specs.SettingsLimits.{settings_limits}
-use Rattle.status_text.specs.declared.status.Status.{Status}
+use Rattle.command_words.specs.Commands.{measuring_view}
+use Rattle.pq_course.specs.TopCall.{reading_of}
+use Rattle.pq_run.proofs.PrintingLemmas.{made}
+use Rattle.pq_run.specs.Measuring.{measuring_course, report_text}
 use Rattle.pq_run.proofs.measuring.measured_report.Goals as goal
 
--- the settings are refused, and no file is asked for
-pub returns-in_err-limits : goal.returns-in_err-limits
-returns-in_err-limits g c =
-    let told = g.K.Shelf in
-    let m : Measurement = measuring_view c.args.measuring.now in
-    let why : Status = c.in_err-limits.field-0.0 in
-    let r : Reading = reading_of told c.args.shelf.now c.args.shelf.now in
-    is_err _ _ c.from_residual.result why c.from_residual.ensures.1
-    (ends_refused (settings_limits m.settings) why _ r (inr (sym c.in_err-limits.ensures.value))
-    c.in_err-limits.ensures.refuses (quiet told c.args.shelf.now))
-
--- there is no recording
-pub returns-in_err-recording : goal.returns-in_err-recording
-returns-in_err-recording g c =
-    let m : Measurement = measuring_view c.args.measuring.now in
-    let limits : Limits = c.in_ok-limits.limits in
-    let why : Status = c.in_err-recording.field-0.0 in
-    is_err _ _ c.from_residual-in_err-recording.result why c.from_residual-in_err-recording.ensures.1
-    (goes_on_good (settings_limits m.settings) limits _
-    (reading_of g.K.Shelf c.args.shelf.now c.read_recording.new.shelf) (Err why)
-    (sym c.in_ok-limits.ensures.value) (c.in_err-recording.ensures.value (report_course limits)))
-
--- its report
-pub returns : goal.returns
-returns g c =
-    let told = g.K.Shelf in
-    let m : Measurement = measuring_view c.args.measuring.now in
-    let limits : Limits = c.in_ok-limits.limits in
-    let result = c.recording_report.result in
-    goes_on_good (settings_limits m.settings) limits _
-    (reading_of told c.args.shelf.now c.read_recording.new.shelf) result (sym c.in_ok-limits.ensures.value)
-    (c.in_ok-recording.ensures.value (report_course limits) (told.asked c.read_recording.new.shelf)
-    (told.faults c.read_recording.new.shelf) result
-    (judged_text (Ok (report_text c.in_ok-recording.recording limits)) result _
-    c.recording_report.ensures.value c.recording_report.ensures.refuses
-    (quiet_after told c.args.shelf.now c.read_recording.new.shelf)))
+-- the report that was read for, or want of memory
+pub returns-in-Ok : goal.returns-in-Ok
+returns-in-Ok g c = made (measuring_course (measuring_view c.args.measuring.now))
+    (reading_of g.K.Shelf c.args.shelf.now c.read_measurement.new.shelf)
+    (report_text c.in-Ok.recording c.in-Ok.limits) c.recording_report.result c.in-Ok.ensures.read
+    c.recording_report.ensures.value

@@ -1,4 +1,4 @@
-use Rattle.std.proofs.Common.{◌≡◌, subst}
+use Rattle.std.proofs.Common.{subst}
 use Rattle.pq_course.proofs.PartLemmas.{written}
 use Rattle.pq_course.specs.Parts.{IsWritten}
 use Rattle.pq_course.specs.TopCall.{Writing, reading_of, writing_of}

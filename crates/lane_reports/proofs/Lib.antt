@@ -1,0 +1,3 @@
+mod PrintedLaws
+mod RangeLaws
+mod RowLaws

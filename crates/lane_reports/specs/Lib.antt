@@ -1,0 +1,2 @@
+pub mod OpenedChain
+pub mod PrintedReport
