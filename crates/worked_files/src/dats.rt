@@ -1,7 +1,5 @@
 // Records as `record16` makes them and `read_dat` reads them: two analogue channels, of which the first is
 // in volts, and 17 status channels.
-ghost use Rattle.std.specs.Prelude.{◌<◌};
-
 use comtrade_cfg::{read_cfg, select};
 use comtrade_dat::{DatFault, DatReader, MISSING_COUNT, read_dat, record16};
 use pq_base::{OutOfMemory, Recording};
@@ -62,9 +60,10 @@ fn read_in_pieces(
     cfg: &[u8],
     dat: &[u8],
     size: usize,
-) -> Option<Result<Vec<i64>, DatFault>>
-    requires { 0 < size }
-{
+) -> Option<Result<Vec<i64>, DatFault>> {
+    if size == 0 {
+        return None;
+    }
     let Ok(cfg) = read_cfg(alloc, cfg) else {
         return None;
     };
@@ -146,12 +145,14 @@ fn dat_in_pieces(rt: HostRuntime) -> Result<(), Fail> {
     let good = wide_dat(alloc, &[(7, 1), (8, 2), (9, -3), (10, 4), (11, 5)]).expect(&rt, "memory");
     let misnumbered = wide_dat(alloc, &[(7, 1), (8, 2), (8, 3), (1, 4)]).expect(&rt, "memory");
     let missing = wide_dat(alloc, &[(7, 1), (8, MISSING_COUNT), (9, 3)]).expect(&rt, "memory");
+    let mut cut = good.to_vec(alloc)?;
+    cut.truncate(70);
     let cfg = wide_cfg(alloc, 5)?;
     let few = wide_cfg(alloc, 4)?;
     for size in [1, 7, 16, 24] {
         for (cfg, dat) in [
             (cfg.as_slice(), good.as_slice()),
-            (cfg.as_slice(), &good[..70]),
+            (cfg.as_slice(), cut.as_slice()),
             (few.as_slice(), good.as_slice()),
             (cfg.as_slice(), misnumbered.as_slice()),
             (cfg.as_slice(), missing.as_slice()),
