@@ -7,7 +7,7 @@ use Rattle.std.proofs.lemmas.List.Elements.{All-cons, All-get_or, All-head, All-
 use Rattle.std.proofs.lemmas.List.FromFn.{get_or-map-range_with_len, length-map-range_with_len}
 use Rattle.std.specs.List.{All, range_with_len}
 use Rattle.comtrade_dat.specs.BinaryRecord.{count_in, number_in, record_at}
-use Rattle.comtrade_dat.specs.Channel.{ChannelRead, HasCounts, read_on}
+use Rattle.comtrade_dat.specs.Channel.{ChannelRead, HasCounts, HaveTaken, read_on}
 use Rattle.comtrade_dat.specs.Run.{is_numbered_after, judged_bytes, judged_in, judged_run, number_before}
 use Rattle.comtrade_dat.specs.Samples.{first_fault, is_missing, none_missing, sample_at}
 use Rattle.comtrade_dat.specs.declared.dat_fault.DatFault.{DatFault}
@@ -88,6 +88,25 @@ of_channels P (channel ∷ more) positions same all =
     All-cons (λ (channel : ChannelRead). P channel.position) channel more
     (All-head P channel.position ps here)
     (of_channels P more ps refl (All-tail P channel.position ps here))
+
+-- channels that threads took records of, where no channel wanted memory, have read on
+pub all_taken : (size : ℕ) (dat : Text) (start end : ℕ) (olds news : List ChannelRead) →
+    length news ≡ length olds → HaveTaken size dat start end olds news →
+    All (λ (channel : ChannelRead). channel.lacks_memory ≡ false) news → news
+    ≡ map (read_on size dat start end) olds
+all_taken size dat start end [] [] same taken there = refl
+all_taken size dat start end [] (new ∷ news) same taken there = absurd (omega (arith, same))
+all_taken size dat start end (old ∷ olds) [] same taken there = absurd (omega (arith, same))
+all_taken size dat start end (old ∷ olds) (new ∷ news) same taken there =
+    let some : 0 < suc (length olds) = omega arith in
+    let first : new ≡ read_on size dat start end old =
+    taken 0 new some (All-head (λ (channel : ChannelRead). channel.lacks_memory ≡ false) new news there) in
+    let more : HaveTaken size dat start end olds news =
+    λ i d below. taken (suc i) d (omega (arith, below)) in
+    let rest : news ≡ map (read_on size dat start end) olds =
+    all_taken size dat start end olds news (omega (arith, same)) more
+    (All-tail (λ (channel : ChannelRead). channel.lacks_memory ≡ false) new news there) in
+    ap (λ c. c ∷ news) first ∙ ap (λ cs. read_on size dat start end old ∷ cs) rest
 
 -- ---- the counts of good records
 

@@ -1,5 +1,5 @@
 -- What contracts see of a selected channel that is being read: where its counts lie, and its samples so far.
-use Rattle.std.specs.Prelude.{◌≢◌, ℕ, ◌+◌, ◌*◌, ◌-◌, ◌^◌, ◌<◌, ◌≤◌, nat_le, List, [], ◌++◌, All, map, ℤ, Result}
+use Rattle.std.specs.Prelude.{◌≡◌, ◌≢◌, ℕ, ◌+◌, ◌*◌, ◌-◌, ◌^◌, ◌<◌, ◌≤◌, Bool, false, nat_le, List, [], ◌++◌, All, length, map, slice_index_or, ℤ, Result}
 use Rattle.std.specs.List.{range_with_len}
 use Rattle.comtrade_cfg.specs.Configuration.{Configuration}
 use Rattle.comtrade_cfg.specs.Selecting.{AreWithinLimit, coefficients_at}
@@ -20,11 +20,12 @@ pub record IsLayout (size : ℕ) (positions : List ℕ) : Type 0 where
   pub small : size < 2 ^ 16
   pub room : All (λ p. 10 + 2 * p ≤ size) positions
 
--- a channel by its position, and its samples so far
+-- a channel by its position, its samples so far, and whether there was no memory for one
 pub record ChannelRead : Type 0 where
   pub position : ℕ
   pub coefficients : Coefficients
   pub samples : List ℤ
+  pub lacks_memory : Bool
 
 -- the positions and the samples of several channels
 abbrev pub all_positions : List ChannelRead → List ℕ
@@ -40,6 +41,15 @@ read_on size dat start end channel = record channel {
       (range_with_len start (end - start));
 }
 
+-- what is left of a channel after a thread took these records: it has read on, or there was no memory
+abbrev pub HasTaken : ℕ → Text → ℕ → ℕ → ChannelRead → ChannelRead → Type 0
+HasTaken size dat start end old new = new.lacks_memory ≡ false → new ≡ read_on size dat start end old
+
+-- the same of several channels
+abbrev pub HaveTaken : ℕ → Text → ℕ → ℕ → List ChannelRead → List ChannelRead → Type 0
+HaveTaken size dat start end olds news = (i : ℕ) (d : ChannelRead) → i < length olds →
+    HasTaken size dat start end (slice_index_or olds i d) (slice_index_or news i d)
+
 -- each of the first n records has a count at this position
 abbrev pub HasCounts : ℕ → Text → ℕ → ℕ → Type 0
 HasCounts size dat n position = (index : ℕ) → index < n →
@@ -50,9 +60,18 @@ pub record IsChannel (c : ChannelRead) : Type 0 where
   pub limit : AreWithinLimit c.coefficients
   pub quiet : All (IsWithin MOST_MICROVOLTS) c.samples
 
--- the channel at a position, before the first record
+-- a channel with these coefficients, before the first record
+abbrev pub unread_with : Coefficients → ℕ → ChannelRead
+unread_with coefficients position = record {
+  position = position;
+  coefficients = coefficients;
+  samples = [];
+  lacks_memory = false;
+}
+
+-- the channel at a position of a configuration, before the first record
 abbrev pub unread : Configuration → ℕ → ChannelRead
-unread c position = record { position = position; coefficients = coefficients_at c position; samples = [] }
+unread c position = unread_with (coefficients_at c position) position
 
 -- after so many good records, of so many bytes: where not all n are there, the first that is cut off; else the
 -- bytes that are left

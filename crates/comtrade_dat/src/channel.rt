@@ -1,7 +1,6 @@
 // A selected channel that is being read.
-ghost use Rattle.std.specs.Prelude.{◌≡◌, ◌+◌, ◌-◌, ◌*◌, ◌<◌, ◌≤◌, [], ◌++◌, All, IfOk, IsErrOf, OnErr, OnOk, length, map};
-ghost use Rattle.std.specs.List.{range_with_len};
-ghost use Rattle.comtrade_dat.specs.Channel.{HasCounts, read_on};
+ghost use Rattle.std.specs.Prelude.{◌≡◌, ◌+◌, ◌-◌, ◌*◌, ◌<◌, ◌≤◌, All, IfOk, IsErrOf, OnErr, OnOk, length};
+ghost use Rattle.comtrade_dat.specs.Channel.{HasCounts, HasTaken, read_on, unread_with};
 ghost use Rattle.comtrade_cfg.specs.Selecting.{AreWithinLimit};
 ghost use Rattle.comtrade_dat.specs.declared.dat_fault.DatFault.TheVariants as fault;
 ghost use Rattle.pq_words.specs.declared.limits.TheConstants.{MOST_MICROVOLTS};
@@ -14,12 +13,13 @@ use comtrade_cfg::Coefficients;
 use std::alloc::Global;
 use std::marker::Model;
 
-// Where its counts lie, what they stand for, and its samples so far.
+// Where its counts lie, what they stand for, its samples so far, and whether there was no memory for one.
 #[derive(Drop)]
-pub(crate) struct Channel {
+pub struct Channel {
     position: usize,
     coefficients: Coefficients,
     samples: Vec<i64>,
+    lacks_memory: bool,
 }
 
 impl Model for Channel {
@@ -31,12 +31,14 @@ impl Model for Channel {
       position = c.position;
       coefficients = c.coefficients;
       samples = c.samples.items;
+      lacks_memory = c.lacks_memory;
     } };
 
     ghost invariant = { λ c. IsChannel (record {
       position = c.position;
       coefficients = c.coefficients;
       samples = c.samples.items;
+      lacks_memory = c.lacks_memory;
     }) };
 }
 
@@ -44,12 +46,13 @@ impl Channel {
     // It has no samples, and no room for any.
     pub(crate) fn new(alloc: Global, position: usize, coefficients: Coefficients) -> Channel
         requires { AreWithinLimit coefficients }
-        ensures { result ≡ record { position = position; coefficients = coefficients; samples = [] } }
+        ensures { result ≡ unread_with coefficients position }
     {
         Channel {
             position,
             coefficients,
             samples: Vec::new(alloc),
+            lacks_memory: false,
         }
     }
 
@@ -90,6 +93,26 @@ impl Channel {
             self.samples.push(microvolts(&coefficients, count))?;
         }
         Ok(())
+    }
+
+    // Takes them in a thread, which tells nothing: want of memory is kept.
+    pub(crate) fn keep_records(&mut self, size: usize, dat: &[u8], start: usize, end: usize)
+        requires forward { start ≤ end }
+        requires whole { size * end ≤ length dat.now }
+        requires room { 10 + 2 * self.old.position ≤ size }
+        requires counts { HasCounts size dat.now end self.old.position }
+        ensures { HasTaken size dat.now start end self.old self.new }
+    {
+        if self.take_records(size, dat, start, end).is_err() {
+            self.lacks_memory = true;
+        }
+    }
+
+    // Whether there was no memory for a sample.
+    pub(crate) fn lacks_memory(&self) -> bool
+        ensures { result ≡ self.now.lacks_memory }
+    {
+        self.lacks_memory
     }
 
     pub(crate) fn into_samples(self) -> Vec<i64>

@@ -13,6 +13,7 @@ use crate::dat_fault::DatFault;
 use crate::decoded::{Decoded, samples, unread_channels};
 use crate::progress::Progress;
 use crate::run_start::RunStart;
+use crate::taking::Taking;
 use comtrade_cfg::{Cfg, Selection};
 use pq_base::{OutOfMemory, Recording};
 use std::alloc::Global;
@@ -85,14 +86,14 @@ impl<'c> DatReader<'c> {
     /// # Errors
     ///
     /// [`OutOfMemory`] where there was no memory, now or at an earlier piece: `finish` says so too.
-    pub fn feed(&mut self, piece: &[u8]) -> Result<(), OutOfMemory>
+    pub fn feed<T: Taking>(&mut self, taking: &T, piece: &[u8]) -> Result<(), OutOfMemory>
+        requires ready { T.is_ready taking.now }
         ensures fed { FeedsOn self.old piece.now self.new }
         ensures told { OnErr result (HasNoMemory self.new) }
     {
         let size = record_size(self.cfg);
         let n = self.cfg.endsamp as usize;
-        self.progress
-            .feed(size, self.selection.positions.as_slice(), n, piece)
+        self.progress.feed(taking, size, self.selection.positions.as_slice(), n, piece)
     }
 
     /// The recording that all the bytes that were fed make.

@@ -2,7 +2,7 @@
 ghost use Rattle.std.specs.Prelude.{◌≡◌, ◌+◌, ◌-◌, ◌*◌, ◌<◌, ◌≤◌, All, IfOk, IsErrOf, OnErr, OnOk, Ok, length, map};
 ghost use Rattle.comtrade_cfg.specs.Configuration.{cfg_view};
 ghost use Rattle.comtrade_cfg.specs.Selecting.{AreWithinLimit, coefficients_at};
-ghost use Rattle.comtrade_dat.specs.Channel.{HasCounts, IsLayout, all_positions, all_samples, read_on, unread};
+ghost use Rattle.comtrade_dat.specs.Channel.{IsLayout, all_positions, all_samples, read_on, unread};
 ghost use Rattle.comtrade_dat.specs.Run.{judged_run, start_after};
 ghost use Rattle.comtrade_dat.specs.Samples.{Gives, first_fault};
 ghost use Rattle.comtrade_dat.specs.declared.dat_fault.DatFault.TheVariants as fault;
@@ -12,8 +12,8 @@ ghost use Rattle.pq_words.specs.Magnitude.{IsWithin};
 use crate::channel::Channel;
 use crate::dat_fault::DatFault;
 use crate::judging::judge_records;
-use crate::limits::RECORDS_AT_ONCE;
 use crate::run_start::{RunStart, start_after};
+use crate::taking::Taking;
 use comtrade_cfg::{Cfg, Coefficients};
 use std::alloc::Global;
 
@@ -26,14 +26,16 @@ pub(crate) struct Decoded {
 
 impl Decoded {
     // Takes the first records of the run that comes next. Of all records there are n.
-    pub(crate) fn take_run(
+    pub(crate) fn take_run<T: Taking>(
         &mut self,
+        taking: &T,
         size: usize,
         positions: &[u32],
         n: usize,
         run: &[u8],
         count: usize,
     ) -> Result<(), DatFault>
+        requires ready { T.is_ready taking.now }
         requires layout { IsLayout size positions.now }
         requires paired { all_positions self.old.channels.items ≡ positions.now }
         requires whole { size * count ≤ length run.now }
@@ -46,7 +48,7 @@ impl Decoded {
     {
         let channels = self.channels.as_mut_slice();
         make_room(channels, count, n - self.next.index);
-        read_records(channels, size, positions, self.next, run, count)?;
+        read_records(taking, channels, size, positions, self.next, run, count)?;
         self.next = start_after(size, self.next, run, count);
         Ok(())
     }
@@ -93,7 +95,8 @@ fn make_room(channels: &mut [Channel], next: usize, all: usize)
 }
 
 // The samples of the first records of a run, or the fault of the first of these that is at fault.
-fn read_records(
+fn read_records<T: Taking>(
+    taking: &T,
     channels: &mut [Channel],
     size: usize,
     positions: &[u32],
@@ -101,6 +104,7 @@ fn read_records(
     run: &[u8],
     count: usize,
 ) -> Result<(), DatFault>
+    requires ready { T.is_ready taking.now }
     requires whole { size * count ≤ length run.now }
     requires layout { IsLayout size positions.now }
     requires few { start.index + count ≤ MOST_SAMPLES }
@@ -110,31 +114,10 @@ fn read_records(
 {
     let mut from = 0;
     while from < count {
-        let end = from + RECORDS_AT_ONCE.min(count - from);
+        let end = from + taking.records_at_once().min(count - from);
         judge_records(size, positions, start, run, from, end)?;
-        take_records(channels, size, run, from, end)?;
+        taking.take_records(channels, size, run, from, end)?;
         from = end;
-    }
-    Ok(())
-}
-
-// The samples of the records from an index to another, which are good.
-fn take_records(
-    channels: &mut [Channel],
-    size: usize,
-    run: &[u8],
-    start: usize,
-    end: usize,
-) -> Result<(), DatFault>
-    requires forward { start ≤ end }
-    requires whole { size * end ≤ length run.now }
-    requires room { All (λ channel. 10 + 2 * channel.position ≤ size) channels.old }
-    requires counts { All (λ channel. HasCounts size run.now end channel.position) channels.old }
-    ensures value { OnOk result (channels.new ≡ map (read_on size run.now start end) channels.old) }
-    ensures err { OnErr result (IsErrOf result fault.OutOfMemory) }
-{
-    for channel in channels.iter_mut() {
-        channel.take_records(size, run, start, end)?;
     }
     Ok(())
 }

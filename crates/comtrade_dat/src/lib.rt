@@ -6,6 +6,7 @@ pub use dat_reader::DatReader;
 pub use laws::{dats_read_back, none_for_memory, records_read_back};
 pub use limits::{MISSING_COUNT, MOST_DAT_BYTES};
 pub use reading::read_dat;
+pub use taking::{OneThread, SideBySide, Taking};
 pub use writing::record16;
 
 mod channel;
@@ -20,4 +21,5 @@ mod progress;
 mod reading;
 mod run_start;
 mod sample;
+mod taking;
 mod writing;

@@ -5,6 +5,3 @@ pub const MOST_DAT_BYTES: u64 = 536_870_912;
 
 /// The count that says that there is none (C37.111, binary data record).
 pub const MISSING_COUNT: i16 = -32_768;
-
-// The records that are judged before their samples are taken: few enough that they stay near.
-pub(crate) const RECORDS_AT_ONCE: usize = 1024;

@@ -7,6 +7,7 @@ ghost use Rattle.pq_words.specs.declared.limits.TheConstants.{MOST_SAMPLES};
 
 use crate::dat_fault::DatFault;
 use crate::decoded::Decoded;
+use crate::taking::Taking;
 use pq_base::OutOfMemory;
 
 // The whole records, the bytes of the record that is cut off, how many bytes were fed, and the first fault.
@@ -20,13 +21,15 @@ pub(crate) struct Progress {
 
 impl Progress {
     // Takes the next piece. Of all records there are n. After a fault nothing is decoded.
-    pub(crate) fn feed(
+    pub(crate) fn feed<T: Taking>(
         &mut self,
+        taking: &T,
         size: usize,
         positions: &[u32],
         n: usize,
         piece: &[u8],
     ) -> Result<(), OutOfMemory>
+        requires ready { T.is_ready taking.now }
         requires layout { IsLayout size positions.now }
         requires few { n ≤ MOST_SAMPLES }
         requires fed { WasFed size positions.now n self.old }
@@ -36,7 +39,7 @@ impl Progress {
         if let Some(fault) = self.fault {
             return want_of_memory(fault);
         }
-        match self.feed_good(size, positions, n, piece) {
+        match self.feed_good(taking, size, positions, n, piece) {
             Ok(()) => Ok(()),
             Err(fault) => {
                 self.fault = Some(fault);
@@ -46,13 +49,15 @@ impl Progress {
     }
 
     // The same after good bytes. As many bytes as no u64 counts are more than memory holds.
-    fn feed_good(
+    fn feed_good<T: Taking>(
         &mut self,
+        taking: &T,
         size: usize,
         positions: &[u32],
         n: usize,
         piece: &[u8],
     ) -> Result<(), DatFault>
+        requires ready { T.is_ready taking.now }
         requires layout { IsLayout size positions.now }
         requires few { n ≤ MOST_SAMPLES }
         requires going { IsGoing size positions.now n self.old }
@@ -64,17 +69,19 @@ impl Progress {
             return Err(DatFault::OutOfMemory);
         };
         self.bytes = bytes;
-        self.decode(size, positions, n, piece)
+        self.decode(taking, size, positions, n, piece)
     }
 
     // Decodes the next piece: first the record that was cut off, then those that follow it.
-    fn decode(
+    fn decode<T: Taking>(
         &mut self,
+        taking: &T,
         size: usize,
         positions: &[u32],
         n: usize,
         piece: &[u8],
     ) -> Result<(), DatFault>
+        requires ready { T.is_ready taking.now }
         requires layout { IsLayout size positions.now }
         requires few { n ≤ MOST_SAMPLES }
         requires going { IsGoing size positions.now n self.old }
@@ -83,25 +90,27 @@ impl Progress {
         ensures fault { self.new.fault ≡ self.old.fault }
     {
         if self.cut.is_empty() {
-            return self.decode_run(size, positions, n, piece);
+            return self.decode_run(taking, size, positions, n, piece);
         }
         let missing = size - self.cut.len();
         if piece.len() < missing {
             self.cut.extend_from_slice(piece)?;
             return Ok(());
         }
-        self.decode_cut(size, positions, n, &piece[..missing])?;
-        self.decode_run(size, positions, n, &piece[missing..])
+        self.decode_cut(taking, size, positions, n, &piece[..missing])?;
+        self.decode_run(taking, size, positions, n, &piece[missing..])
     }
 
     // Decodes the record that was cut off, by the bytes that it lacked.
-    fn decode_cut(
+    fn decode_cut<T: Taking>(
         &mut self,
+        taking: &T,
         size: usize,
         positions: &[u32],
         n: usize,
         lacking: &[u8],
     ) -> Result<(), DatFault>
+        requires ready { T.is_ready taking.now }
         requires layout { IsLayout size positions.now }
         requires few { n ≤ MOST_SAMPLES }
         requires shape { IsInShape size positions.now n self.old }
@@ -114,19 +123,21 @@ impl Progress {
     {
         self.cut.extend_from_slice(lacking)?;
         self.decoded
-            .take_run(size, positions, n, self.cut.as_slice(), 1)?;
+            .take_run(taking, size, positions, n, self.cut.as_slice(), 1)?;
         self.cut.clear();
         Ok(())
     }
 
     // Decodes the whole records of a run, and keeps the bytes of one that is cut off.
-    fn decode_run(
+    fn decode_run<T: Taking>(
         &mut self,
+        taking: &T,
         size: usize,
         positions: &[u32],
         n: usize,
         run: &[u8],
     ) -> Result<(), DatFault>
+        requires ready { T.is_ready taking.now }
         requires layout { IsLayout size positions.now }
         requires few { n ≤ MOST_SAMPLES }
         requires shape { IsInShape size positions.now n self.old }
@@ -140,7 +151,8 @@ impl Progress {
             return Ok(());
         }
         let count = to_come.min(run.len() / size);
-        self.decoded.take_run(size, positions, n, run, count)?;
+        self.decoded
+            .take_run(taking, size, positions, n, run, count)?;
         if count < to_come {
             self.cut.extend_from_slice(&run[size * count..])?;
         }

@@ -6,6 +6,7 @@ ghost use Rattle.comtrade_dat.specs.Samples.{Gives, samples_of};
 
 use crate::dat_fault::DatFault;
 use crate::dat_reader::DatReader;
+use crate::taking::OneThread;
 use comtrade_cfg::{Cfg, Selection};
 use pq_base::Recording;
 use std::alloc::Global;
@@ -29,6 +30,6 @@ pub fn read_dat(
     ensures value { Gives result (samples_of (cfg_view cfg.now) (selection_view selection.now) bytes.now) }
 {
     let mut reader = DatReader::open(alloc, cfg, selection)?;
-    reader.feed(bytes)?;
+    reader.feed(&OneThread, bytes)?;
     reader.finish(alloc)
 }

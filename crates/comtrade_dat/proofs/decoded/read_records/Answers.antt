@@ -7,7 +7,7 @@ use Rattle.comtrade_dat.specs.Samples.{first_fault}
 use Rattle.comtrade_dat.proofs.decoded.read_records.Goals as goal
 
 pub loop-from-init : goal.loop-from-init
-loop-from-init c = record {
+loop-from-init g c = record {
   within = omega arith;
   good = refl;
   read = sym (none_read c.args.size c.args.run.now c.args.channels.now);
@@ -15,7 +15,7 @@ loop-from-init c = record {
 
 -- a record of this block is at fault
 pub returns-in_err-judge_records-clause-value : goal.returns-in_err-judge_records-clause-value
-returns-in_err-judge_records-clause-value c =
+returns-in_err-judge_records-clause-value g c =
     let end = c.loop-from.from + c.min.result in
     let e = c.in_err-judge_records.field-0.0 in
     let judged = judged_in c.args.size c.args.positions.now c.args.start c.args.run.now in
@@ -27,7 +27,7 @@ returns-in_err-judge_records-clause-value c =
 
 -- the channels are those of the positions
 pub take_records-requires-clause-room : goal.take_records-requires-clause-room
-take_records-requires-clause-room c =
+take_records-requires-clause-room g c =
     let at : List ChannelRead → List ℕ = map (λ (channel : ChannelRead). channel.position) in
     let same : at c.loop-from.channels ≡ c.args.positions.now = ap at c.loop-from.invariant.read
     ∙ (positions_stay c.args.size c.args.run.now 0 c.loop-from.from c.args.channels.now ∙ c.requires.paired)
@@ -36,7 +36,7 @@ take_records-requires-clause-room c =
     c.requires.layout.room
 
 pub take_records-requires-clause-counts : goal.take_records-requires-clause-counts
-take_records-requires-clause-counts c =
+take_records-requires-clause-counts g c =
     let size = c.args.size in
     let run = c.args.run.now in
     let positions = c.args.positions.now in
@@ -51,7 +51,7 @@ take_records-requires-clause-counts c =
 
 -- one more block
 pub loop-from-preserved : goal.loop-from-preserved
-loop-from-preserved c =
+loop-from-preserved g c =
     let size = c.args.size in
     let run = c.args.run.now in
     let start = c.loop-from.from in

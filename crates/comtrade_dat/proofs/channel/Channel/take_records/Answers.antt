@@ -22,6 +22,7 @@ loop-index-init c =
     record {
       position = search rules;
       coefficients = search rules;
+      lacks_memory = search rules;
       value = rw (none, append-nil) (search rules);
       quiet = c.self.invariant.quiet;
     }
@@ -82,6 +83,7 @@ loop-index-preserved c =
     record {
       position = c.loop-index.invariant.position;
       coefficients = c.loop-index.invariant.coefficients;
+      lacks_memory = c.loop-index.invariant.lacks_memory;
       value = pushed ∙ (ap (λ xs. xs ++ x ∷ []) c.loop-index.invariant.value
           ∙ (append_assoc c.self.inside.samples.items (map samples (range_with_len start (index - start)))
           (x ∷ [])

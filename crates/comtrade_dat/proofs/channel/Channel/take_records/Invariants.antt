@@ -10,6 +10,7 @@ abbrev pub invariant-loop-index : goal.invariant-loop-index
 invariant-loop-index l = record {
   position : l.self-inside.position ≡ l.position;
   coefficients : l.self-inside.coefficients ≡ l.coefficients;
+  lacks_memory : l.self-inside.lacks_memory ≡ l.initial.self-inside.lacks_memory;
   value : l.self-inside.samples.items ≡ l.initial.self-inside.samples.items
       ++ map (sample_at l.coefficients l.size l.position l.dat) (range_with_len l.start (l.index - l.start));
   quiet : All (IsWithin MOST_MICROVOLTS) l.self-inside.samples.items;

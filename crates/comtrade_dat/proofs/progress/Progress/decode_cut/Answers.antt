@@ -6,7 +6,7 @@ use Rattle.comtrade_dat.proofs.progress.Progress.decode_cut.Goals as goal
 
 -- the record that is whole now is at fault, or there was no memory
 pub returns-in_err-take_run-clause-good : goal.returns-in_err-take_run-clause-good
-returns-in_err-take_run-clause-good c = λ unread fed h.
+returns-in_err-take_run-clause-good g c = λ unread fed h.
     let size = c.args.size in
     let positions = c.args.positions.now in
     let n = c.args.n in
@@ -25,7 +25,7 @@ returns-in_err-take_run-clause-good c = λ unread fed h.
 
 -- it is good
 pub returns-clause-good : goal.returns-clause-good
-returns-clause-good c = λ unread fed h.
+returns-clause-good g c = λ unread fed h.
     let size = c.args.size in
     let positions = c.args.positions.now in
     let n = c.args.n in

@@ -7,7 +7,7 @@ use Rattle.comtrade_dat.proofs.progress.Progress.decode_run.Goals as goal
 
 -- all records are there
 pub returns-then-to_come-eq0-clause-good : goal.returns-then-to_come-eq0-clause-good
-returns-then-to_come-eq0-clause-good c = λ unread fed h.
+returns-then-to_come-eq0-clause-good g c = λ unread fed h.
     let all : c.args.n ≤ c.args.self.now.decoded.next.index = omega arith in
     record {
       decoded = decoded_longer c.args.size c.args.positions.now unread c.args.self.now.decoded fed
@@ -20,7 +20,7 @@ returns-then-to_come-eq0-clause-good c = λ unread fed h.
 
 -- a record is at fault, or there was no memory
 pub returns-in_err-take_run-clause-good : goal.returns-in_err-take_run-clause-good
-returns-in_err-take_run-clause-good c = λ unread fed h.
+returns-in_err-take_run-clause-good g c = λ unread fed h.
     let size = c.args.size in
     let p = c.args.self.now in
     let run = c.args.run.now in
@@ -36,7 +36,7 @@ returns-in_err-take_run-clause-good c = λ unread fed h.
 
 -- the bytes of a record that is cut off are kept
 pub returns-in_ok-extend_from_slice-clause-good : goal.returns-in_ok-extend_from_slice-clause-good
-returns-in_ok-extend_from_slice-clause-good c = λ unread fed h.
+returns-in_ok-extend_from_slice-clause-good g c = λ unread fed h.
     let size = c.args.size in
     let n = c.args.n in
     let p = c.args.self.now in
@@ -77,7 +77,7 @@ returns-in_ok-extend_from_slice-clause-good c = λ unread fed h.
 
 -- n records are there
 pub returns-else-count-to_come-clause-good : goal.returns-else-count-to_come-clause-good
-returns-else-count-to_come-clause-good c = λ unread fed h.
+returns-else-count-to_come-clause-good g c = λ unread fed h.
     let size = c.args.size in
     let n = c.args.n in
     let p = c.args.self.now in

@@ -6,7 +6,7 @@ use Rattle.comtrade_dat.proofs.progress.Progress.feed.Goals as goal
 
 -- a fault stays
 pub returns-in-Some-clause-fed : goal.returns-in-Some-clause-fed
-returns-in-Some-clause-fed c = λ unread fed h.
+returns-in-Some-clause-fed g c = λ unread fed h.
     let size = c.args.size in
     let positions = c.args.positions.now in
     let n = c.args.n in
@@ -18,7 +18,7 @@ returns-in-Some-clause-fed c = λ unread fed h.
 
 -- good bytes go on
 pub returns-in-Ok-clause-fed : goal.returns-in-Ok-clause-fed
-returns-in-Ok-clause-fed c = λ unread fed h.
+returns-in-Ok-clause-fed g c = λ unread fed h.
     let size = c.args.size in
     let positions = c.args.positions.now in
     let n = c.args.n in

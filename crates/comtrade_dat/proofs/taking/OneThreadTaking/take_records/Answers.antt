@@ -2,7 +2,7 @@ use Rattle.std.proofs.Common.{◌≡◌, ◌∙◌, ◌<◌, length, sym, ap, ar
 use Rattle.std.proofs.lemmas.List.Edits.{map_over_more}
 use Rattle.std.specs.Prelude.{slice_set}
 use Rattle.comtrade_dat.specs.Channel.{read_on}
-use Rattle.comtrade_dat.proofs.decoded.take_records.Goals as goal
+use Rattle.comtrade_dat.proofs.taking.OneThreadTaking.take_records.Goals as goal
 
 -- one more channel is read on
 pub loop-channel-preserved : goal.loop-channel-preserved

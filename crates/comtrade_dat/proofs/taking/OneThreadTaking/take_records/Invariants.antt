@@ -1,6 +1,6 @@
 use Rattle.std.proofs.Common.{◌≡◌, ◌++◌, map, take, drop}
 use Rattle.comtrade_dat.specs.Channel.{read_on}
-use Rattle.comtrade_dat.proofs.decoded.take_records.Given as goal
+use Rattle.comtrade_dat.proofs.taking.OneThreadTaking.take_records.Given as goal
 
 -- the channels so far are read on
 abbrev pub invariant-loop-channel : goal.invariant-loop-channel
