@@ -2,12 +2,11 @@
 ghost use Rattle.std.specs.Prelude.{◌≡◌, ◌+◌, ◌*◌, ◌^◌, ◌<◌, ◌≤◌, ℕ, [], ◌++◌, All, IfOk, IsErrOf, OnErr, length, map};
 ghost use Rattle.cfg_fields.specs.declared.limits.TheConstants.{MOST_CHANNELS};
 ghost use Rattle.comtrade_cfg.specs.CfgText.{IsConfiguration};
-ghost use Rattle.comtrade_cfg.specs.Configuration.{Configuration, cfg_view};
-ghost use Rattle.comtrade_cfg.specs.Selecting.{IsSelected, Selected, selection_view};
-ghost use Rattle.comtrade_dat.specs.DatReader.{FeedsOn, HasNoMemory, HasRead, IsOfWhole, IsWholeOf};
-ghost use Rattle.comtrade_dat.specs.Samples.{Gives, record_size, samples_of};
+ghost use Rattle.comtrade_cfg.specs.Configuration.{cfg_view};
+ghost use Rattle.comtrade_cfg.specs.Selecting.{IsSelected, selection_view};
+ghost use Rattle.comtrade_dat.specs.DatReader.{FeedsOn, GivesAllFed, GivesWhole, HasNoMemory, HasRead, IsOfWhole};
+ghost use Rattle.comtrade_dat.specs.Samples.{record_size};
 ghost use Rattle.comtrade_dat.specs.declared.dat_fault.DatFault.TheVariants as fault;
-ghost use Rattle.pq_words.specs.Text.{Text};
 
 use crate::dat_fault::DatFault;
 use crate::decoded::{Decoded, samples, unread_channels};
@@ -102,8 +101,7 @@ impl<'c> DatReader<'c> {
     ///
     /// As of [`read_dat`](crate::read_dat).
     pub fn finish(self, alloc: Global) -> Result<Recording, DatFault>
-        ensures value { (c : Configuration) (s : Selected) (fed : Text) → HasRead c s fed self.entry →
-            Gives result (samples_of c s fed) }
+        ensures value { GivesAllFed self.entry result }
         ensures memory { HasNoMemory self.entry → IsErrOf result fault.OutOfMemory }
     {
         let cfg = self.cfg;
@@ -133,8 +131,7 @@ fn recording(
     requires said { IsConfiguration (cfg_view cfg.now) }
     requires selected { IsSelected (cfg_view cfg.now) (selection_view selection.now) }
     requires whole { IsOfWhole (cfg_view cfg.now) (selection_view selection.now) decoded }
-    ensures { (fed : Text) → IsWholeOf (cfg_view cfg.now) (selection_view selection.now) decoded fed →
-        Gives result (samples_of (cfg_view cfg.now) (selection_view selection.now) fed) }
+    ensures { GivesWhole (cfg_view cfg.now) (selection_view selection.now) decoded result }
 {
     let numbers = numbers(alloc, selection.positions.as_slice())?;
     let samples = samples(alloc, decoded.channels)?;

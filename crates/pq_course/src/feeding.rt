@@ -7,37 +7,44 @@ ghost use Rattle.pq_course.specs.Feeding.{FeedsFile, FeedsRest, IsDatFed};
 ghost use Rattle.pq_course.specs.TopCall.{reading_of};
 
 use crate::input_file::{InputFile, limit_of, refusal};
-use comtrade_dat::DatReader;
+use comtrade_dat::{DatReader, Taking};
 use pq_base::{ReadAll, Shelf};
 use status_text::Status;
+use std::alloc::Global;
 
-// How many bytes are asked for at once.
-const PIECE: usize = 65_536;
+// How many bytes are asked for at once: enough that several threads are worth their start.
+const PIECE: usize = 1_048_576;
 
 /// Feeds a reader with the dat of this name, piece by piece, or gives the status of a call that can't have
 /// it. The shelf is asked for it once, and all of it is read, whatever the reader finds in it.
-pub fn feed_dat<K: Shelf>(
+pub fn feed_dat<T: Taking, K: Shelf>(
+    alloc: Global,
+    taking: &T,
     shelf: &mut K,
     name: &str,
     reader: &mut DatReader<'_>,
 ) -> Result<(), Status>
+    requires { T.is_ready taking.now }
     ensures value { IsDatFed name.now reader.old reader.new (reading_of K.Shelf shelf.old shelf.new)
         result }
     ensures files { K.files shelf.new ≡ K.files shelf.old }
 {
-    match feed_all(shelf, name, limit_of(InputFile::Dat), reader) {
+    match feed_all(alloc, taking, shelf, name, limit_of(InputFile::Dat), reader) {
         Ok(()) => Ok(()),
         Err(why) => Err(refusal(InputFile::Dat, shelf, why)),
     }
 }
 
 // Feeds a reader with the file of this name, if it has at most `limit` bytes.
-fn feed_all<K: Shelf>(
+fn feed_all<T: Taking, K: Shelf>(
+    alloc: Global,
+    taking: &T,
     shelf: &mut K,
     name: &str,
     limit: u64,
     reader: &mut DatReader<'_>,
 ) -> Result<(), ReadAll>
+    requires { T.is_ready taking.now }
     ensures files { K.files shelf.new ≡ K.files shelf.old }
     ensures asked { HasAsked (K.asked shelf.old) (name.now ∷ []) (K.asked shelf.new) }
     ensures fed { OnOk result (FeedsFile (K.files shelf.old) name.now limit reader.old reader.new) }
@@ -50,11 +57,20 @@ fn feed_all<K: Shelf>(
     if !shelf.open(name)? {
         return Err(ReadAll::Missing);
     }
-    feed_rest(shelf, limit, reader)
+    let mut piece = vec![in alloc; 0u8; PIECE]?;
+    feed_rest(taking, shelf, limit, reader, piece.as_mut_slice())
 }
 
-// Feeds a reader with what is left of the opened file.
-fn feed_rest<K: Shelf>(shelf: &mut K, limit: u64, reader: &mut DatReader<'_>) -> Result<(), ReadAll>
+// Feeds a reader with what is left of the opened file, which is read into a piece again and again.
+fn feed_rest<T: Taking, K: Shelf>(
+    taking: &T,
+    shelf: &mut K,
+    limit: u64,
+    reader: &mut DatReader<'_>,
+    piece: &mut [u8],
+) -> Result<(), ReadAll>
+    requires ready { T.is_ready taking.now }
+    requires room { 0 < length piece.old }
     ensures files { K.files shelf.new ≡ K.files shelf.old }
     ensures asked { K.asked shelf.new ≡ K.asked shelf.old }
     ensures fed { OnOk result (FeedsRest (K.rest shelf.old) limit reader.old reader.new) }
@@ -64,10 +80,9 @@ fn feed_rest<K: Shelf>(shelf: &mut K, limit: u64, reader: &mut DatReader<'_>) ->
     ensures later { K.faults shelf.old ≤ K.faults shelf.new }
     ensures counted { CountsOnce K.counts_each (K.faults shelf.old) (K.faults shelf.new) (is_failed result) }
 {
-    let mut piece = [0; PIECE];
     let mut left = limit;
     'pieces: loop {
-        let count = shelf.read(&mut piece)?;
+        let count = shelf.read(piece)?;
         if count == 0 {
             return Ok(());
         }
@@ -75,7 +90,7 @@ fn feed_rest<K: Shelf>(shelf: &mut K, limit: u64, reader: &mut DatReader<'_>) ->
             return Err(ReadAll::Over);
         }
         left -= count as u64;
-        if reader.feed(&piece[..count]).is_err() {
+        if reader.feed(taking, &piece[..count]).is_err() {
             return Err(ReadAll::OutOfMemory);
         }
     }

@@ -58,6 +58,11 @@ dat_recording s dat = or_refused dat_refusal (samples_of s.configuration s.selec
 abbrev pub HasReadDat : SelectedConfiguration → Text → DatReading → Type 0
 HasReadDat s dat reader = HasRead s.configuration s.selected dat reader
 
+-- a reader gives the recording of whatever dat it has been fed, or the dat's refusal
+abbrev pub GivesDat : DatReading → Result Recorded Status → Type 0
+GivesDat reader result = (s : SelectedConfiguration) (dat : Text) → HasReadDat s dat reader →
+    Gives result (dat_recording s dat)
+
 -- the dat is asked for, and the course goes on with the recording where it is good
 abbrev pub dat_course : Measurement → SelectedConfiguration → (Recorded → Course Status) → Course Status
 dat_course m s go = asks_for file.Dat m.dat (λ dat. goes_on (dat_recording s dat) go)

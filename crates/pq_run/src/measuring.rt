@@ -9,6 +9,7 @@ ghost use Rattle.status_text.specs.Refusals.{IsRefusing};
 use crate::recording_files::read_recording;
 use crate::settings::limits_of;
 use command_words::Measuring;
+use comtrade_dat::{OneThread, SideBySide, Taking};
 use event_detect::Limits;
 use lane_reports::lane_report;
 use lane_workers::Gate;
@@ -21,7 +22,7 @@ use std::sync::Wait;
 use std::thread::Threads;
 
 /// Prints the report of a recording under settings, each row as its item is given while a worker a lane
-/// measures. It may wait.
+/// measures. The channels of the dat are decoded side by side. It may wait.
 pub fn print_report<R: Threads + Wait + Sync, K: Shelf, O: Sink, G: Gate + Sync>(
     rt: &R,
     alloc: Global,
@@ -34,7 +35,7 @@ pub fn print_report<R: Threads + Wait + Sync, K: Shelf, O: Sink, G: Gate + Sync>
     ensures { IsReportCall measuring.now
         (call_of K.Shelf O.Sink shelf.old shelf.new out.old out.new) result }
 {
-    match read_measurement(alloc, measuring, shelf) {
+    match read_measurement(alloc, &SideBySide { rt }, measuring, shelf) {
         Ok((limits, recording)) => lane_report(rt, alloc, &recording, &limits, out, gate),
         Err(status) => status,
     }
@@ -49,25 +50,27 @@ pub fn measured_report<K: Shelf>(
     requires { IsInRange measuring.now.settings }
     ensures { IsReportRead measuring.now (reading_of K.Shelf shelf.old shelf.new) result }
 {
-    match read_measurement(alloc, measuring, shelf) {
+    match read_measurement(alloc, &OneThread, measuring, shelf) {
         Ok((limits, recording)) => recording_report(alloc, &recording, &limits),
         Err(status) => Err(status),
     }
 }
 
 // The limits of settings, which are judged before any file is asked for, and the recording of the files.
-fn read_measurement<K: Shelf>(
+fn read_measurement<T: Taking, K: Shelf>(
     alloc: Global,
+    taking: &T,
     measuring: &Measuring<'_>,
     shelf: &mut K,
 ) -> Result<(Limits, Recording), Status>
-    requires { IsInRange measuring.now.settings }
+    requires ready { T.is_ready taking.now }
+    requires settings { IsInRange measuring.now.settings }
     ensures read { IsReportRead measuring.now (reading_of K.Shelf shelf.old shelf.new)
         (report_read result) }
     ensures order { IfOk result (λ m. IsInOrder m.0) }
 {
     let limits = limits_of(&measuring.settings)?;
-    let recording = read_recording(alloc, measuring, shelf)?;
+    let recording = read_recording(alloc, taking, measuring, shelf)?;
     Ok((limits, recording))
 }
 

@@ -2,14 +2,13 @@
 ghost use Rattle.std.specs.Prelude.{◌≡◌, [], IfErr, IfOk, IsErrOf, OnErr, option_map};
 ghost use Rattle.comtrade_cfg.specs.Selecting.{wanted_view};
 ghost use Rattle.pq_course.specs.TopCall.{reading_of};
-ghost use Rattle.pq_run.specs.RecordingFiles.{Gives, HasReadDat, IsRecordingRead, IsSelectedConfiguration, SelectedConfiguration, dat_recording, selected_cfg_view};
-ghost use Rattle.pq_words.specs.Text.{Text};
+ghost use Rattle.pq_run.specs.RecordingFiles.{GivesDat, HasReadDat, IsRecordingRead, IsSelectedConfiguration, selected_cfg_view};
 ghost use Rattle.status_text.specs.Refusals.{IsRefusing};
 ghost use Rattle.status_text.specs.declared.status.Status.TheVariants as status;
 
 use crate::selected_cfg::{SelectedCfg, selected_cfg};
 use command_words::Measuring;
-use comtrade_dat::DatReader;
+use comtrade_dat::{DatReader, Taking};
 use pq_base::{Recording, Shelf};
 use pq_course::{InputFile, feed_dat, read_file};
 use status_text::Status;
@@ -17,11 +16,13 @@ use std::alloc::Global;
 
 /// The recording of a measurement's files. The cfg is judged before the dat is asked for, and both are given
 /// back.
-pub fn read_recording<K: Shelf>(
+pub fn read_recording<T: Taking, K: Shelf>(
     alloc: Global,
+    taking: &T,
     measuring: &Measuring<'_>,
     shelf: &mut K,
 ) -> Result<Recording, Status>
+    requires { T.is_ready taking.now }
     ensures value { IsRecordingRead measuring.now (reading_of K.Shelf shelf.old shelf.new) result }
     ensures files { K.files shelf.new ≡ K.files shelf.old }
 {
@@ -29,7 +30,7 @@ pub fn read_recording<K: Shelf>(
     let wanted = wanted_numbers(&measuring.channels);
     let selected = selected_cfg(alloc, cfg.bytes(), wanted, measuring.reference)?;
     let mut reader = dat_reader(alloc, &selected)?;
-    feed_dat(shelf, measuring.dat, &mut reader)?;
+    feed_dat(alloc, taking, shelf, measuring.dat, &mut reader)?;
     dat_recording(alloc, reader)
 }
 
@@ -55,8 +56,7 @@ fn dat_reader(alloc: Global, selected: &SelectedCfg) -> Result<DatReader<'_>, St
 
 // The recording that the dat makes which a reader was fed, or the dat's refusal.
 fn dat_recording(alloc: Global, reader: DatReader<'_>) -> Result<Recording, Status>
-    ensures value { (s : SelectedConfiguration) (dat : Text) → HasReadDat s dat reader.entry →
-        Gives result (dat_recording s dat) }
+    ensures value { GivesDat reader.entry result }
     ensures refuses { IfErr result IsRefusing }
 {
     let recording = reader.finish(alloc)?;

@@ -9,6 +9,7 @@ ghost use Rattle.status_text.specs.Refusals.{IsRefusing};
 use crate::recording_files::read_recording;
 use crate::settings::limits_of;
 use command_words::Measuring;
+use comtrade_dat::OneThread;
 use event_detect::Limits;
 use pq_base::{Recording, Shelf, Text};
 use pq_course::{InputFile, read_file};
@@ -28,7 +29,7 @@ pub fn schedule_replay<K: Shelf>(
     ensures { IsReplayRead measuring.now schedule.now (reading_of K.Shelf shelf.old shelf.new) result }
 {
     let limits = limits_of(&measuring.settings)?;
-    let recording = read_recording(alloc, measuring, shelf)?;
+    let recording = read_recording(alloc, &OneThread, measuring, shelf)?;
     let text = read_file(alloc, shelf, InputFile::Schedule, schedule)?;
     schedule_answers(alloc, &limits, &recording, &text)
 }

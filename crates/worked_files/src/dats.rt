@@ -1,7 +1,9 @@
 // Records as `record16` makes them and `read_dat` reads them: two analogue channels, of which the first is
 // in volts, and 17 status channels.
 use comtrade_cfg::{read_cfg, select};
-use comtrade_dat::{DatFault, DatReader, MISSING_COUNT, read_dat, record16};
+use comtrade_dat::{
+    DatFault, DatReader, MISSING_COUNT, OneThread, SideBySide, Taking, read_dat, record16,
+};
 use pq_base::{OutOfMemory, Recording};
 use std::alloc::{AllocError, Global};
 use std::test::Fail;
@@ -13,6 +15,21 @@ const FRONT: &str = "demo,pqa,1999
 ";
 
 const BACK: &str = "
+01/03/2024,12:00:01.000000
+01/03/2024,12:00:01.000000
+BINARY
+1
+";
+
+// Five records of three channels.
+const THREE: &str = "demo,pqa,1999
+3,3A,0D
+1,UA,A,,V,0.0325,0,0,-32767,32767,1,1,P
+2,UB,B,,V,0.0325,0,0,-32767,32767,1,1,P
+3,UC,C,,V,0.0325,0,0,-32767,32767,1,1,P
+50
+1
+1200,5
 01/03/2024,12:00:01.000000
 01/03/2024,12:00:01.000000
 BINARY
@@ -61,6 +78,22 @@ fn read_in_pieces(
     dat: &[u8],
     size: usize,
 ) -> Option<Result<Vec<i64>, DatFault>> {
+    samples_of(
+        alloc,
+        recording_in_pieces(alloc, &OneThread, cfg, dat, size)?,
+    )
+}
+
+// The recording of a dat that comes in pieces of so many bytes, or its fault.
+fn recording_in_pieces<T: Taking>(
+    alloc: Global,
+    taking: &T,
+    cfg: &[u8],
+    dat: &[u8],
+    size: usize,
+) -> Option<Result<Recording, DatFault>>
+    requires { T.is_ready taking.now }
+{
     if size == 0 {
         return None;
     }
@@ -72,9 +105,9 @@ fn read_in_pieces(
     };
     let mut reader = DatReader::open(alloc, &cfg, &selection).ok()?;
     for piece in dat.chunks(size) {
-        reader.feed(piece).ok()?;
+        reader.feed(taking, piece).ok()?;
     }
-    samples_of(alloc, reader.finish(alloc))
+    Some(reader.finish(alloc))
 }
 
 // The samples of the one channel of a recording, or the fault.
@@ -162,5 +195,48 @@ fn dat_in_pieces(rt: HostRuntime) -> Result<(), Fail> {
             assert!(rt; pieces == whole, "{size}");
         }
     }
+    Ok(())
+}
+
+// Five records of three counts: 1 to 5, their negatives but for one record, and threes.
+fn three_dat(alloc: Global, missing: Option<u32>) -> Result<Vec<u8>, OutOfMemory> {
+    let mut dat = Vec::new(alloc);
+    for (number, count) in [(1, 1i16), (2, 2), (3, 3), (4, 4), (5, 5)] {
+        let second = if missing == Some(number) {
+            MISSING_COUNT
+        } else {
+            -count
+        };
+        let bytes = record16(alloc, number, 0, &[count, second, 3], &[])?;
+        dat.extend_from_slice(&bytes)?;
+    }
+    Ok(dat)
+}
+
+// Three channels whose samples threads take, 32.5 millivolts a count, of a dat in pieces of a record and a half;
+// and the fault of a record whose second channel has no count.
+#[test]
+fn channels_side_by_side(rt: HostRuntime) -> Result<(), Fail> {
+    let alloc = rt.alloc();
+    let taking = SideBySide { rt: &rt };
+    let cfg = THREE.as_bytes();
+    let good = three_dat(alloc, None).expect(&rt, "memory");
+    let read = recording_in_pieces(alloc, &taking, cfg, &good, 21).expect(&rt, "memory");
+    let recording = read.expect(&rt, "a good dat");
+    assert_eq!(rt; recording.channels(), 3);
+    for (channel, samples) in [
+        (0, [32_500i64, 65_000, 97_500, 130_000, 162_500]),
+        (1, [-32_500, -65_000, -97_500, -130_000, -162_500]),
+        (2, [97_500; 5]),
+    ] {
+        assert!(rt;
+            recording.samples(channel) == samples.as_slice(),
+            "{channel}"
+        );
+    }
+    let missing = three_dat(alloc, Some(4)).expect(&rt, "memory");
+    let read = recording_in_pieces(alloc, &taking, cfg, &missing, 21).expect(&rt, "memory");
+    let fault = DatFault::Missing { at: 4, channel: 2 };
+    assert!(rt; read.is_err_and(|found| found == fault), "{fault:?}");
     Ok(())
 }

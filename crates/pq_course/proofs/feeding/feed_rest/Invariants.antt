@@ -1,4 +1,4 @@
-use Rattle.std.proofs.Common.{◌≡◌, ◌≤◌, false}
+use Rattle.std.proofs.Common.{◌≡◌, ◌<◌, ◌≤◌, false, length}
 use Rattle.pq_base.specs.Causes.{CountsOnce}
 use Rattle.pq_course.proofs.FeedLemmas.{IsFedSoFar}
 use Rattle.pq_course.proofs.feeding.feed_rest.Given as goal
@@ -13,6 +13,7 @@ invariant-pieces g l =
       asked : g.K.Shelf.asked l.shelf ≡ g.K.Shelf.asked l.fn.shelf;
       later : faults l.fn.shelf ≤ faults l.shelf;
       counted : CountsOnce g.K.Shelf.counts_each (faults l.fn.shelf) (faults l.shelf) false;
+      room : 0 < length l.piece;
       so_far : IsFedSoFar (rest l.fn.shelf) (rest l.shelf) l.fn.limit l.left l.fn.reader l.reader;
     }
 
