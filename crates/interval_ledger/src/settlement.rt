@@ -17,10 +17,11 @@ use std::marker::Model;
 use std::sync::ledger::Ledger;
 
 /// Merging, of which what is released is the cut at the mark. It is seen as what is posted, the mark, and how
-/// many items are merged.
+/// many items are merged. It has thousands of bytes, and a ledger goes from hand to hand: so it stays in one
+/// place of memory.
 #[derive(Drop)]
 pub(crate) struct Settlement {
-    merging: Merging,
+    merging: Box<Merging>,
 }
 
 impl Model for Settlement {
@@ -29,9 +30,9 @@ impl Model for Settlement {
 
     ghost Value = { SettlementView };
 
-    ghost view = { λ s. settlement_of s.merging };
+    ghost view = { λ s. settlement_of s.merging.value };
 
-    ghost invariant = { λ s. IsLedger s.merging };
+    ghost invariant = { λ s. IsLedger s.merging.value };
 }
 
 impl Settlement {
@@ -46,6 +47,7 @@ impl Settlement {
         ensures posted { IfOk result IsPosted }
     {
         let merging = open_merging(alloc, recording, limits)?;
+        let merging = Box::new(alloc, merging)?;
         Ok(Settlement { merging })
     }
 
@@ -55,12 +57,8 @@ impl Settlement {
         ensures value { self.new ≡ with_post self.old lane }
         ensures posted { IsPosted self.new }
     {
-        post(
-            &mut self.merging.channels,
-            &mut self.merging.readings,
-            lane,
-            item,
-        );
+        let merging = &mut *self.merging;
+        post(&mut merging.channels, &mut merging.readings, lane, item);
     }
 
     // Moves the mark to a place, if that lies after it. A step at most for each item that is merged or
@@ -77,7 +75,8 @@ impl Settlement {
         ensures ok { OnOk result (self.new.mark ≡ max self.old.mark w) }
         ensures err { OnErr result (self.new.mark ≡ self.old.mark) }
     {
-        self.merging.advance(w, steps)
+        let merging = &mut *self.merging;
+        merging.advance(w, steps)
     }
 
     pub(crate) fn mark(&self) -> u64
@@ -104,7 +103,8 @@ impl Settlement {
     pub(crate) fn lanes(&self) -> u32
         ensures { result ≡ lane_count self.now.recording }
     {
-        lanes(&self.merging.channels)
+        let merging = &*self.merging;
+        lanes(&merging.channels)
     }
 
     // How many items of a lane are posted.
@@ -112,6 +112,7 @@ impl Settlement {
         requires { lane < lane_count self.now.recording }
         ensures { result ≡ posted_count self.now lane }
     {
-        count(&self.merging.channels, &self.merging.readings, lane) as u64
+        let merging = &*self.merging;
+        count(&merging.channels, &merging.readings, lane) as u64
     }
 }

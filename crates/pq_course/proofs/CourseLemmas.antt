@@ -1,10 +1,10 @@
 -- What holds of the rest of a course holds of the course: one lemma for each promise of a top call.
-use Rattle.std.proofs.Common.{◌≡◌, ℕ, ◌≤◌, false, Bool, List, [], ◌∷◌, ◌++◌, Option, Some, None, ◌⊎◌, inl, inr, refl, sym, subst, ap, ◌∙◌, append-nil, append_assoc, arith}
+use Rattle.std.proofs.Common.{◌≡◌, ℕ, ◌≤◌, false, Bool, List, [], ◌∷◌, ◌++◌, Option, Some, None, ◌⊎◌, inl, inr, refl, sym, subst, ap, ◌∙◌, append-nil, append_assoc}
 use Rattle.std.specs.Prelude.{IfSome, if◌then◌else◌}
 use Rattle.pq_base.proofs.CauseLemmas.{rose_since}
-use Rattle.pq_base.specs.Causes.{CountsOnce, Rose, next_count}
+use Rattle.pq_base.specs.Causes.{CountsOnce, next_count}
 use Rattle.pq_base.specs.Outside.{Files, HasAsked, file_named}
-use Rattle.pq_course.specs.TopCall.{Call, HasAskedAll, HasAskedFront, IsComplete, IsExplained, IsTopCall, Reading, Writing}
+use Rattle.pq_course.specs.TopCall.{Call, HasAskedAll, HasAskedFront, IsExplained, IsTopCall, Reading, Writing}
 use Rattle.pq_course.specs.Verdict.{Asks, AsksAll, AsksFront, Course, Ends, Finds, Outcome, verdict}
 use Rattle.status_text.specs.declared.status.Status.{Status}
 use Rattle.status_text.specs.declared.status.Status.TheVariants as status

@@ -1,11 +1,9 @@
 -- A reader that is fed piece by piece.
-use Rattle.std.proofs.Common.{◌≡◌, ◌∙◌, ℕ, ◌+◌, ◌<◌, ◌≤◌, List, [], ◌++◌, length, true, Option, Some, None, ap, sym, subst, arith, append-nil, append_assoc}
+use Rattle.std.proofs.Common.{◌≡◌, ◌∙◌, ℕ, ◌+◌, ◌<◌, [], ◌++◌, length, true, Option, Some, None, ap, sym, subst, arith, append-nil, append_assoc}
 use Rattle.std.proofs.KnownBytes.{Consumes-trans}
 use Rattle.std.proofs.lemmas.List.{length-append}
 use Rattle.std.specs.Io.KnownBytes.{Consumes}
 use Rattle.std.specs.Prelude.{IfSome, is_some, unwrap_or}
-use Rattle.comtrade_cfg.specs.Configuration.{Configuration}
-use Rattle.comtrade_cfg.specs.Selecting.{Selected}
 use Rattle.comtrade_dat.specs.DatReader.{DatReading, FeedsOn, HasRead}
 use Rattle.pq_base.specs.Outside.{Files, Holds, Opens, file_named}
 use Rattle.pq_words.specs.Text.{Text}

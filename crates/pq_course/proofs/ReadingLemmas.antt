@@ -1,5 +1,5 @@
 -- Parts of a call that read: what is refused or given where nothing more is read, and after a file.
-use Rattle.std.proofs.Common.{◌≡◌, ℕ, ◌≤◌, true, false, List, [], ◌∷◌, ◌++◌, length, Option, Some, None, ◌⊎◌, inl, inr, Result, Ok, Err, refl, sym, subst, ap, ◌∙◌, arith}
+use Rattle.std.proofs.Common.{◌≡◌, ℕ, ◌≤◌, true, false, List, [], length, Option, Some, None, ◌⊎◌, inl, inr, Result, Ok, Err, refl, sym, subst, ap, ◌∙◌, arith}
 use Rattle.std.proofs.KnownBytes.{Appends-nil}
 use Rattle.std.proofs.lemmas.Bool.Decides.{nat_tests}
 use Rattle.std.specs.Io.KnownBytes.{Appends}
@@ -12,15 +12,14 @@ use Rattle.pq_base.specs.Outside.{Files, HasAsked, Holds}
 use Rattle.pq_base.specs.declared.shelf.Shelf as shelf
 use Rattle.pq_course.proofs.CourseLemmas.{Follows, asked_names, asked_none, all_after, begun_at, counted_then, of_rest, top_call_after}
 use Rattle.pq_course.specs.InputFile.{asks_for, limit_of, number_of, quantity_of}
-use Rattle.pq_course.specs.Parts.{HasBytes, IsIdle, IsJobText, IsRead, rest_until, whole_until}
+use Rattle.pq_course.specs.Parts.{HasBytes, IsRead, rest_until, whole_until}
 use Rattle.status_text.specs.Refusals.{IsRefusing, cfg_refusal, dat_refusal, or_refused}
 use Rattle.pq_course.specs.Judged.{goes_on}
-use Rattle.pq_course.specs.TopCall.{HasTakenFront, HasTakenNothing, IsTopCall, OfOutcome, Reading, Writing, reading_of}
-use Rattle.pq_course.specs.Verdict.{Asks, AsksFront, Course, Ends, Finds, Job, Outcome, Refused, verdict, with_file}
+use Rattle.pq_course.specs.TopCall.{HasTakenFront, HasTakenNothing, OfOutcome, Reading, Writing, reading_of}
+use Rattle.pq_course.specs.Verdict.{Asks, Course, Ends, Finds, Job, Outcome, Refused, verdict, with_file}
 use Rattle.pq_course.specs.declared.input_file.InputFile.{InputFile}
 use Rattle.status_text.specs.declared.status.Status.{Status}
 use Rattle.status_text.specs.declared.status.Status.TheVariants as status
-use Rattle.pq_words.specs.FirstFault.{GivesUnless}
 use Rattle.pq_words.specs.Text.{Text}
 
 -- ---- nothing more is read

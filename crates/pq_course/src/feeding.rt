@@ -29,7 +29,27 @@ pub fn feed_dat<T: Taking, K: Shelf>(
         result }
     ensures files { K.files shelf.new ≡ K.files shelf.old }
 {
-    match feed_all(alloc, taking, shelf, name, limit_of(InputFile::Dat), reader) {
+    match vec![in alloc; 0u8; PIECE] {
+        Ok(mut piece) => feed_by(taking, shelf, name, reader, piece.as_mut_slice()),
+        Err(_) => Err(Status::OutOfMemory),
+    }
+}
+
+// The same, where the dat is read into a piece again and again.
+fn feed_by<T: Taking, K: Shelf>(
+    taking: &T,
+    shelf: &mut K,
+    name: &str,
+    reader: &mut DatReader<'_>,
+    piece: &mut [u8],
+) -> Result<(), Status>
+    requires ready { T.is_ready taking.now }
+    requires room { 0 < length piece.old }
+    ensures value { IsDatFed name.now reader.old reader.new (reading_of K.Shelf shelf.old shelf.new)
+        result }
+    ensures files { K.files shelf.new ≡ K.files shelf.old }
+{
+    match feed_all(taking, shelf, name, limit_of(InputFile::Dat), reader, piece) {
         Ok(()) => Ok(()),
         Err(why) => Err(refusal(InputFile::Dat, shelf, why)),
     }
@@ -37,14 +57,15 @@ pub fn feed_dat<T: Taking, K: Shelf>(
 
 // Feeds a reader with the file of this name, if it has at most `limit` bytes.
 fn feed_all<T: Taking, K: Shelf>(
-    alloc: Global,
     taking: &T,
     shelf: &mut K,
     name: &str,
     limit: u64,
     reader: &mut DatReader<'_>,
+    piece: &mut [u8],
 ) -> Result<(), ReadAll>
-    requires { T.is_ready taking.now }
+    requires ready { T.is_ready taking.now }
+    requires room { 0 < length piece.old }
     ensures files { K.files shelf.new ≡ K.files shelf.old }
     ensures asked { HasAsked (K.asked shelf.old) (name.now ∷ []) (K.asked shelf.new) }
     ensures fed { OnOk result (FeedsFile (K.files shelf.old) name.now limit reader.old reader.new) }
@@ -57,11 +78,10 @@ fn feed_all<T: Taking, K: Shelf>(
     if !shelf.open(name)? {
         return Err(ReadAll::Missing);
     }
-    let mut piece = vec![in alloc; 0u8; PIECE]?;
-    feed_rest(taking, shelf, limit, reader, piece.as_mut_slice())
+    feed_rest(taking, shelf, limit, reader, piece)
 }
 
-// Feeds a reader with what is left of the opened file, which is read into a piece again and again.
+// Feeds a reader with what is left of the opened file.
 fn feed_rest<T: Taking, K: Shelf>(
     taking: &T,
     shelf: &mut K,

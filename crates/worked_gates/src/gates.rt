@@ -48,7 +48,8 @@ impl Gate for Meeting {
     }
 }
 
-// Holds lane 0 before its last word until more than a header is taken, and notes how many rows were taken then.
+// Holds lane 0 before its last word until more than a header is taken, and notes how many rows were taken
+// then.
 #[derive(Drop)]
 pub struct Printed<'a> {
     pub notes: Notes,

@@ -1,5 +1,5 @@
-//! Runs of `analyse` whose workers pass a gate that waits for another worker, or for what is printed: tests of
-//! what no clause can say, that lanes do run in threads and that rows are out before the lanes have ended.
+//! Runs of `analyse` whose workers pass a gate that waits for another worker, or for what is printed: tests
+//! of what no clause can say, that lanes do run in threads and that rows are out before the lanes have ended.
 #![tactic(auto)]
 
 #[cfg(test)]

@@ -5,10 +5,10 @@ use std::sync::atomic::{AtomicU64, Ordering};
 // Which words are due.
 #[derive(Clone, Copy)]
 pub enum Due {
-    // Those of a sine of 24,024 samples, 24 a cycle, of which the first boundary that counts is place 24. Lane 0
-    // has 99 intervals of ten cycles; when 64 of them are posted, the next ends at 15,624. Lane 1 has 1,998
-    // windows, one each 12 places; when 64 j of them are posted, the next begins at 24 + 768 j. Lane 2 has one
-    // reading of the frequency. A lane that has posted all is settled up to the end.
+    // Those of a sine of 24,024 samples, 24 a cycle, of which the first boundary that counts is place 24.
+    // Lane 0 has 99 intervals of ten cycles; when 64 of them are posted, the next ends at 15,624. Lane 1 has
+    // 1,998 windows, one each 12 places; when 64 j of them are posted, the next begins at 24 + 768 j. Lane 2
+    // has one reading of the frequency. A lane that has posted all is settled up to the end.
     OfSine,
     // Any.
     Any,

@@ -109,7 +109,8 @@ fn released_before_lanes_end(rt: HostRuntime) -> Result<(), Fail> {
         "{rows_then} rows before the last word of lane 0"
     );
 
-    // The header, 99 intervals of ten cycles, 6 of 150, and the reading of the ten seconds between the two ticks.
+    // The header, 99 intervals of ten cycles, 6 of 150, and the reading of the ten seconds between the two
+    // ticks.
     assert_eq!(rt; taken.rows.load(Ordering::SeqCst), 107);
     Ok(())
 }

@@ -5,7 +5,8 @@ use pq_base::Recording;
 use std::alloc::Global;
 use worked_signals::{Signal, WORKED, Written, cfg, dat};
 
-/// What is recorded: the lines of the channels, what each records, the first moment and the number of samples.
+/// What is recorded: the lines of the channels, what each records, the first moment and the number of
+/// samples.
 #[derive(Clone, Copy)]
 pub struct Worked<'a> {
     pub channels: &'a str,

@@ -6,8 +6,8 @@ use crate::posting::{advance, post_some};
 use interval_ledger::Ledger;
 use std::alloc::AllocError;
 
-/// In which order lanes post: so many rounds, in each of which every lane posts at most so many items, from the
-/// first lane on or from the last one back.
+/// In which order lanes post: so many rounds, in each of which every lane posts at most so many items, from
+/// the first lane on or from the last one back.
 #[derive(Clone, Copy)]
 pub struct Order {
     pub rounds: u64,

@@ -1,4 +1,4 @@
-use Rattle.std.proofs.Common.{◌≡◌, ◌∙◌, ◌+◌, ◌-◌, length, take, false, sym, subst, arith}
+use Rattle.std.proofs.Common.{◌≡◌, ◌∙◌, ◌+◌, ◌-◌, length, take, false, subst, arith}
 use Rattle.std.proofs.lemmas.List.{length-take}
 use Rattle.pq_course.proofs.CourseLemmas.{counted_then}
 use Rattle.pq_course.proofs.FeedLemmas.{IsFedSoFar, fed_further}
@@ -21,6 +21,7 @@ pieces-preserved g c =
       later = omega (arith, e.cause.later, c.pieces.invariant.later);
       counted = counted_then told.counts_each (told.faults c.args.shelf.now) (told.faults c.pieces.shelf)
           (told.faults c.read.new.self) false c.pieces.invariant.counted e.counted;
+      room = omega arith;
       so_far = fed_further (told.rest c.args.shelf.now) (told.rest c.pieces.shelf) (told.rest c.read.new.self)
           c.args.limit left c.args.reader.now c.pieces.reader c.feed.new.self piece
           (subst (λ k. IsFedSoFar (told.rest c.args.shelf.now) (told.rest c.pieces.shelf) c.args.limit k

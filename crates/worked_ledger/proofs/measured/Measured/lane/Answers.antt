@@ -19,5 +19,6 @@ returns c =
     let inside : c.args.lane < lane_count r =
     subst (λ (seen : Recorded). c.args.lane < lane_count seen) (sym c.self.view_is) c.requires in
     c.as_slice.ensures.value
-    ∙ lane_at r c.self.inside.lanes.items c.args.lane c.index.result.now c.self.invariant inside c.index.ensures
+    ∙ lane_at r c.self.inside.lanes.items c.args.lane c.index.result.now c.self.invariant inside
+    c.index.ensures
     ∙ ap (λ seen. lane_items seen c.args.lane) c.self.view_is
