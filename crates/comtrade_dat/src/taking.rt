@@ -37,6 +37,7 @@ pub trait Taking {
 }
 
 /// The caller's thread takes the samples of one channel after another.
+#[derive(Clone, Copy)]
 pub struct OneThread;
 
 impl Taking for OneThread {
@@ -63,6 +64,7 @@ impl Taking for OneThread {
 }
 
 /// Several threads take the samples, each of channels of its own.
+#[derive(Drop)]
 pub struct SideBySide<'a, R> {
     pub rt: &'a R,
 }
