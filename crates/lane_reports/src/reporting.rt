@@ -2,13 +2,13 @@
 ghost use Rattle.std.specs.Prelude.{◌≡◌};
 ghost use Rattle.std.specs.Io.KnownBytes.{Appends};
 ghost use Rattle.event_detect.specs.Threshold.{IsInOrder};
-ghost use Rattle.lane_reports.specs.PrintedReport.{IsReportPrinted, IsRunPrinted, since};
+ghost use Rattle.lane_reports.specs.PrintedReport.{IsReportPrinted, Prints, since};
 ghost use Rattle.lane_workers.specs.Running.{IsAlone, recording_of};
 ghost use Rattle.pq_course.specs.TopCall.{writing_of};
-ghost use Rattle.pq_report.specs.ReportText.{header, rows_text};
+ghost use Rattle.pq_report.specs.ReportText.{header};
 ghost use Rattle.pq_base.specs.Recorded.{IsRecording};
 ghost use Rattle.query_session.specs.Chain.{AreReady};
-ghost use Rattle.query_session.specs.Session.{IsIdle, IsSessionOf, result_of};
+ghost use Rattle.query_session.specs.Session.{IsIdle, IsSessionOf};
 
 use crate::opening::open_chain;
 use crate::sink_printer::{SinkPrinter, Start};
@@ -113,8 +113,8 @@ fn run_printing<R: Threads + Wait + Sync, O: Sink, G: Gate + Sync, B: Start>(
     requires cursor { session.old.cursor ≡ 0 }
     requires header { Appends B.before (O.taken printer.old.out.now) header }
     ensures borrow { printer.new.out.ghost_name ≡ printer.old.out.ghost_name }
-    ensures printed { IsRunPrinted (rows_text printer.old.clock (result_of session.old))
-        (since B.before (writing_of O.Sink printer.old.out.now printer.new.out.now)) result }
+    ensures printed { Prints O.Sink B.before printer.old.clock session.old
+        printer.old.out.now printer.new.out.now result }
 {
     run_lanes(rt, alloc, chain, seats, session, gate, printer)
 }
