@@ -4,7 +4,7 @@ use Rattle.std.specs.Prelude.{unsigned_abs}
 use Rattle.std.proofs.lemmas.Bool.{cases_eq}
 use Rattle.std.proofs.lemmas.Int.{fits_signed_from_abs, to_z-of_z, unsigned_abs-mul}
 use Rattle.jiff_core.proofs.SignedLemmas.{signed_arith}
-use Rattle.std.specs.Int.{w16, w128}
+use Rattle.std.specs.Int.{w16, w64, w128}
 use Rattle.std.proofs.lemmas.Nat.{mul-le}
 use Rattle.comtrade_dat.specs.declared.limits.TheConstants.{MISSING_COUNT}
 use Rattle.pq_base.specs.Decimal.{rounded_quotient, rounded_ratio}
@@ -39,6 +39,26 @@ sum_bound a b x limit small = omega (
   abs_sum ((a *ℤ x) +ℤ b) (a *ℤ x) b refl,
   limit,
 )
+
+-- of small coefficients the product and the sum fit 64 bits
+pub small_product : (a x : ℤ) → unsigned_abs a ≤ 2 ^ 46 → IsWithin 32767 x →
+    unsigned_abs (a *ℤ x) ≤ 2 ^ 61
+small_product a x small within = omega (arith, product_size a x within, small)
+
+pub small_sum : (a b x : ℤ) → unsigned_abs a ≤ 2 ^ 46 → unsigned_abs b ≤ 2 ^ 62 → IsWithin 32767 x →
+    unsigned_abs ((a *ℤ x) +ℤ b) ≤ 2 ^ 61 + 2 ^ 62
+small_sum a b x small small_b within = omega (
+  arith,
+  small_product a x small within,
+  abs_sum ((a *ℤ x) +ℤ b) (a *ℤ x) b refl,
+  small_b,
+)
+
+pub kept_64 : (z : ℤ) → unsigned_abs z ≤ 2 ^ 61 + 2 ^ 62 → to_z w64 (of_z w64 z) ≡ z
+kept_64 z small = to_z-of_z w64 z (fits_signed_from_abs w64 z (omega (arith, small)))
+
+pub count_kept_64 : (x : ℤ) → IsWithin 32767 x → to_z w64 (of_z w64 x) ≡ x
+count_kept_64 x small = kept_64 x (omega (arith, abs_within 32767 x small))
 
 -- nothing of a number within the limit is lost in 128 bits
 pub kept : (z : ℤ) → unsigned_abs z ≤ 10 ^ 19 → to_z w128 (of_z w128 z) ≡ z

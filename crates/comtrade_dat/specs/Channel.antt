@@ -1,5 +1,5 @@
 -- What contracts see of a selected channel that is being read: where its counts lie, and its samples so far.
-use Rattle.std.specs.Prelude.{◌≡◌, ◌≢◌, ℕ, ◌+◌, ◌*◌, ◌-◌, ◌^◌, ◌<◌, ◌≤◌, Bool, false, nat_le, List, [], ◌++◌, All, length, map, slice_index_or, ℤ, Result}
+use Rattle.std.specs.Prelude.{◌≡◌, ◌≢◌, ℕ, ◌+◌, ◌*◌, ◌-◌, ◌^◌, ◌<◌, ◌≤◌, Bool, false, nat_le, List, [], ◌++◌, All, length, map, slice_index_or, ℤ, Result, unsigned_abs}
 use Rattle.std.specs.List.{range_with_len}
 use Rattle.comtrade_cfg.specs.Configuration.{Configuration}
 use Rattle.comtrade_cfg.specs.Selecting.{AreWithinLimit, coefficients_at}
@@ -13,6 +13,11 @@ use Rattle.pq_words.specs.declared.limits.TheConstants.{MOST_MICROVOLTS}
 use Rattle.pq_words.specs.Magnitude.{IsWithin}
 use Rattle.pq_words.specs.FirstFault.{◌>>=◌, provided}
 use Rattle.pq_words.specs.Text.{Text}
+
+-- coefficients under which no count makes picovolts that need more than 64 bits
+pub record AreSmall (k : Coefficients) : Type 0 where
+  pub a : unsigned_abs k.a ≤ 2 ^ 46
+  pub b : unsigned_abs k.b ≤ 2 ^ 62
 
 -- the counts of these positions lie in a record of this size, which has one count at least
 pub record IsLayout (size : ℕ) (positions : List ℕ) : Type 0 where

@@ -1,6 +1,7 @@
 // The sample of a count.
-ghost use Rattle.std.specs.Prelude.{◌≡◌, ◌+◌, ◌^◌, ◌≤◌, ◌≢◌, ◌≤ℤ◌, ◌+ℤ◌, ◌*ℤ◌, pos, unsigned_abs};
+ghost use Rattle.std.specs.Prelude.{◌≡◌, ◌^◌, ◌≤◌, ◌≤ℤ◌, ◌+ℤ◌, ◌*ℤ◌, true, pos, unsigned_abs};
 ghost use Rattle.comtrade_cfg.specs.Selecting.{AreWithinLimit};
+ghost use Rattle.comtrade_dat.specs.Channel.{AreSmall};
 ghost use Rattle.pq_base.specs.Decimal.{rounded_quotient};
 ghost use Rattle.pq_base.specs.Sample.{sample_of};
 ghost use Rattle.pq_words.specs.declared.limits.TheConstants.{MOST_MICROVOLTS};
@@ -25,6 +26,36 @@ pub(crate) fn microvolts(coefficients: &Coefficients, count: i16) -> i64
 
 // The same in whole picovolts.
 fn picovolts(coefficients: &Coefficients, count: i16) -> i128
+    requires limit { AreWithinLimit coefficients.now }
+    requires within { IsWithin 32767 count }
+    ensures value { result ≡ (coefficients.now.a *ℤ count) +ℤ coefficients.now.b }
+    ensures within { unsigned_abs result ≤ 10 ^ 19 }
+{
+    if are_small(coefficients) {
+        i128::from(small_picovolts(coefficients, count))
+    } else {
+        wide_picovolts(coefficients, count)
+    }
+}
+
+// No count makes picovolts past 64 bits. Coefficients of nearly all channels are such.
+fn are_small(coefficients: &Coefficients) -> bool
+    ensures { result ≡ true → AreSmall coefficients.now }
+{
+    coefficients.a.unsigned_abs() <= 1 << 46 && coefficients.b.unsigned_abs() <= 1 << 62
+}
+
+// The picovolts of a count in 64 bits, which takes half the time.
+fn small_picovolts(coefficients: &Coefficients, count: i16) -> i64
+    requires small { AreSmall coefficients.now }
+    requires within { IsWithin 32767 count }
+    ensures { result ≡ (coefficients.now.a *ℤ count) +ℤ coefficients.now.b }
+{
+    coefficients.a as i64 * i64::from(count) + coefficients.b as i64
+}
+
+// The same in 128 bits.
+fn wide_picovolts(coefficients: &Coefficients, count: i16) -> i128
     requires limit { AreWithinLimit coefficients.now }
     requires within { IsWithin 32767 count }
     ensures value { result ≡ (coefficients.now.a *ℤ count) +ℤ coefficients.now.b }

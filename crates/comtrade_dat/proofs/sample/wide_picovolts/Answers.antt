@@ -3,7 +3,7 @@ use Rattle.std.proofs.lemmas.Int.{fits_signed_from_abs, to_z-of_z}
 use Rattle.std.specs.Int.{w128}
 use Rattle.std.specs.Prelude.{unsigned_abs}
 use Rattle.comtrade_dat.proofs.SampleLemmas.{count_kept, count_kept_16, kept, product_bound, sum_bound}
-use Rattle.comtrade_dat.proofs.sample.picovolts.Goals as goal
+use Rattle.comtrade_dat.proofs.sample.wide_picovolts.Goals as goal
 
 -- nothing of the coefficients, of the product or of the sum is lost
 pub returns-clause-value : goal.returns-clause-value
