@@ -94,7 +94,8 @@ decoded_further size positions unread d further dat run count h is more good rea
     ∙ ap (λ before. let start : RunStart = record { index = all; before = before } in start) before in
     record {
       paired = h.paired;
-      whole = subst (λ k. size * k ≤ length dat) (sym index) (run_whole size base count dat run h.whole is more);
+      whole = subst (λ k. size * k ≤ length dat) (sym index)
+          (run_whole size base count dat run h.whole is more);
       good = ap (λ k. first_fault (judged_records size positions dat k)) index ∙ judged;
       read = channels ∙ ap (λ k. map (read_on size dat 0 k) unread) (sym index);
       next = start ∙ ap (start_at size dat) (sym index);
@@ -138,7 +139,8 @@ pub still_open : (size : ℕ) (positions : List ℕ) (n : ℕ) (unread : List Ch
 still_open size positions n unread p fed h some =
     elim (cases_lt p.decoded.next.index n) [
       | inl more ↦ more
-      | inr full ↦ let none : length p.cut.items ≡ 0 = ap length (h.closed full) in absurd (omega (arith, none, some))
+      | inr full ↦ let none : length p.cut.items ≡ 0 = ap length (h.closed full) in
+          absurd (omega (arith, none, some))
     ]
 
 -- the record that was cut off, with what it lacked or a part of it
@@ -177,7 +179,8 @@ whole_run size count bytes few =
 
 -- ---- what comes of a run
 
-pub refused : (good : Type 0) (faulty : DatFault → Type 0) (result : Result (Unit {0}) DatFault) (e : DatFault)
+pub refused : (good : Type 0) (faulty : DatFault → Type 0) (result : Result (Unit {0}) DatFault)
+    (e : DatFault)
     → IsErrAnd result (λ x. x ≡ e) → (e ≡ fault.OutOfMemory) ⊎ faulty e → GoesOn result good faulty
 refused good faulty (Ok done) e is at = absurd is
 refused good faulty (Err found) e is at = subst (λ x. (x ≡ fault.OutOfMemory) ⊎ faulty x) (sym is) at
@@ -203,7 +206,8 @@ faulty_longer size positions n fed more e (inl free) = inl free
 faulty_longer size positions n fed more e (inr found) = inr (fault_longer size positions n fed more e found)
 
 -- a piece in two parts
-pub parts_joined : (fed piece : Text) (k : ℕ) → (fed ++ take k piece) ++ take (length piece - k) (drop k piece)
+pub parts_joined : (fed piece : Text) (k : ℕ) → (fed ++ take k piece) ++ take (length piece - k)
+    (drop k piece)
     ≡ fed ++ piece
 parts_joined fed piece k =
     append_assoc fed (take k piece) (take (length piece - k) (drop k piece))
@@ -217,7 +221,8 @@ pub good_after : (size : ℕ) (positions : List ℕ) (n : ℕ) (unread : List Ch
     → GoesOn result (IsGoodSoFar size positions n unread p fed) (HasFault size positions n fed)
     → GoesOn result (IsGoodSoFar size positions n unread p all) (HasFault size positions n all)
 good_after size positions n unread p all fed result same goes =
-    subst (λ l. GoesOn result (IsGoodSoFar size positions n unread p l) (HasFault size positions n l)) same goes
+    subst (λ l. GoesOn result (IsGoodSoFar size positions n unread p l) (HasFault size positions n l))
+    same goes
 
 -- ---- the end
 

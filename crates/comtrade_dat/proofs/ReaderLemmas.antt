@@ -114,7 +114,8 @@ was_fed c s size positions p fed of_size of_positions h = (
 -- what its end gives
 pub reader_ends : (c : Configuration) (s : Selected) (size : ℕ) (p : Progress)
     (result : Result Decoded DatFault)
-    → size ≡ record_size c → EndsAll size c.endsamp p result → (c2 : Configuration) (s2 : Selected) (fed : Text)
+    → size ≡ record_size c → EndsAll size c.endsamp p result → (c2 : Configuration) (s2 : Selected)
+    (fed : Text)
     → HasRead c2 s2 fed (reading c s p)
     → Ends (record_size c2) s2.positions c2.endsamp (map (unread c2) s2.positions) fed result
 reader_ends c s size p result of_size ends c2 s2 fed h =

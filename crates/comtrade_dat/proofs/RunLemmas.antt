@@ -94,7 +94,8 @@ judged_is size positions dat index whole =
     let before = number_in (record_at size dat (index - 1)) in
     let counted : Result (Unit {0}) DatFault = none_missing (index + 1) (find (is_missing bytes) positions) in
     ap (λ (there : Bool). provided there (fault.Short (index + 1)) (tt {0}) >>= (λ whole.
-    provided (is_numbered size dat index) (fault.Number (index + 1) number) (tt {0}) >>= (λ numbered. counted)))
+    provided (is_numbered size dat index) (fault.Number (index + 1) number) (tt {0}) >>=
+    (λ numbered. counted)))
     (at_least (size * (index + 1)) (length dat) whole)
     ∙ ap (λ (numbered : Bool). provided numbered (fault.Number (index + 1) number) (tt {0})
     >>= (λ numbered. counted)) (numbered_by (index == 0) number before)
@@ -176,7 +177,8 @@ run_decides size positions dat base n whole good =
 
 -- ---- samples
 
-pub read_longer : (size : ℕ) (dat more : Text) (n : ℕ) → size * n ≤ length dat → (channels : List ChannelRead) →
+pub read_longer : (size : ℕ) (dat more : Text) (n : ℕ) → size * n ≤ length dat →
+    (channels : List ChannelRead) →
     map (read_on size (dat ++ more) 0 n) channels ≡ map (read_on size dat 0 n) channels
 read_longer size dat more n whole [] = refl
 read_longer size dat more n whole (channel ∷ rest) =

@@ -78,8 +78,8 @@ unread_with coefficients position = record {
 abbrev pub unread : Configuration → ℕ → ChannelRead
 unread c position = unread_with (coefficients_at c position) position
 
--- after so many good records, of so many bytes: where not all n are there, the first that is cut off; else the
--- bytes that are left
+-- after so many good records, of so many bytes: where not all n are there, the first that is cut off; else
+-- the bytes that are left
 abbrev pub judged_count : ℕ → ℕ → ℕ → ℕ → Result (Unit {0}) DatFault
 judged_count size count bytes n = do
   whole ← provided (nat_le n count) (fault.Short (count + 1)) (tt {0})

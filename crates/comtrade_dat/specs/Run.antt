@@ -23,7 +23,8 @@ is_numbered_after (Some before) number = number == (before + 1) % 2 ^ 32
 -- the bytes of a whole record, which is this one of the dat, from 1
 abbrev pub judged_bytes : List ℕ → Option ℕ → ℕ → Text → Result (Unit {0}) DatFault
 judged_bytes positions before at bytes = do
-  numbered ← provided (is_numbered_after before (number_in bytes)) (fault.Number at (number_in bytes)) (tt {0})
+  numbered ← provided (is_numbered_after before (number_in bytes)) (fault.Number at (number_in bytes))
+      (tt {0})
   none_missing at (find (is_missing bytes) positions)
 
 -- the record at an index of a run

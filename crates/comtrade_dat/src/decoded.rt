@@ -41,7 +41,8 @@ impl Decoded {
         requires whole { size * count ≤ length run.now }
         requires within { self.old.next.index + count ≤ n }
         requires few { n ≤ MOST_SAMPLES }
-        ensures value { Gives result (first_fault (judged_run size positions.now self.old.next run.now count)) }
+        ensures value { Gives result
+            (first_fault (judged_run size positions.now self.old.next run.now count)) }
         ensures read { OnOk result (self.new.channels.items
             ≡ map (read_on size run.now 0 count) self.old.channels.items) }
         ensures next { OnOk result (self.new.next ≡ start_after size self.old.next run.now count) }

@@ -41,7 +41,8 @@ past_limit (Some all) (Some rest) bytes limit consumed past =
 found_holds : (found : Option Text) (all bytes : Text) → true ≡ is_some found
     → Some all ≡ Some (unwrap_or found []) → all ≡ bytes → found ≡ Some bytes
 found_holds None all bytes there is same = absurd cc
-found_holds (Some held) all bytes there is same = let whole : all ≡ held = cc in ap (λ l. Some l) (sym whole ∙ same)
+found_holds (Some held) all bytes there is same = let whole : all ≡ held = cc in
+    ap (λ l. Some l) (sym whole ∙ same)
 
 -- the bytes of an opened file are those that are left of it
 pub opened_holds : (files : Option Files) (name : Text) (rest : Option Text) (bytes : Text)
@@ -54,7 +55,8 @@ opened_holds (Some fs) name (Some all) bytes opens left =
 -- ---- one more piece
 
 pub fed_further : (first between now : Option Text) (limit left : ℕ) (a b c : DatReading) (piece : Text)
-    → IsFedSoFar first between limit (left + length piece) a b → Consumes between now piece → FeedsOn b piece c
+    → IsFedSoFar first between limit (left + length piece) a b → Consumes between now piece →
+    FeedsOn b piece c
     → IsFedSoFar first now limit left a c
 fed_further first between now limit left a b c piece so_far consumed on = record {
   bytes = so_far.bytes ++ piece;

@@ -213,8 +213,8 @@ fn three_dat(alloc: Global, missing: Option<u32>) -> Result<Vec<u8>, OutOfMemory
     Ok(dat)
 }
 
-// Three channels whose samples threads take, 32.5 millivolts a count, of a dat in pieces of a record and a half;
-// and the fault of a record whose second channel has no count.
+// Three channels whose samples threads take, 32.5 millivolts a count, of a dat in pieces of a record and a
+// half; and the fault of a record whose second channel has no count.
 #[test]
 fn channels_side_by_side(rt: HostRuntime) -> Result<(), Fail> {
     let alloc = rt.alloc();

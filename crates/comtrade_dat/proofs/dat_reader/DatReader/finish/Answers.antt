@@ -16,7 +16,8 @@ returns-in_err-decoded-clause-value c = λ cfg s fed h.
     let e = c.in_err-decoded.field-0.0 in
     refused_dat cfg s fed c.from_residual.result e c.from_residual.ensures.1
     (reader_ends (cfg_view c.self.inside.cfg.now) (selection_view c.self.inside.selection.now)
-    c.record_size.result c.self.inside.progress (Err e) c.record_size.ensures.value c.in_err-decoded.ensures.value cfg s
+    c.record_size.result c.self.inside.progress (Err e) c.record_size.ensures.value c.in_err-decoded.ensures.value
+    cfg s
     fed (subst (HasRead cfg s fed) (sym c.self.view_is) h))
 
 pub recording-requires-clause-whole : goal.recording-requires-clause-whole
@@ -41,7 +42,8 @@ returns-clause-value c = λ cfg s fed h.
     subst (λ (c : Configuration). HasRead c chosen fed r) (sym here.configuration)
     (subst (λ (s : Selected). HasRead cfg s fed r) (sym here.selected) here) in
     let gives : Gives c.recording.result (samples_of said chosen fed) =
-    c.recording.ensures fed (reader_ends said chosen c.record_size.result progress (Ok c.in_ok-decoded.decoded)
+    c.recording.ensures fed (reader_ends said chosen c.record_size.result progress
+    (Ok c.in_ok-decoded.decoded)
     c.record_size.ensures.value c.in_ok-decoded.ensures.value said chosen fed own) in
     subst (λ (c2 : Configuration). Gives c.recording.result (samples_of c2 s fed)) here.configuration
     (subst (λ (s2 : Selected). Gives c.recording.result (samples_of said s2 fed)) here.selected gives)

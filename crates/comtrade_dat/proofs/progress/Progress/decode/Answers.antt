@@ -14,7 +14,8 @@ pub returns-then-piece-missing-clause-good : goal.returns-then-piece-missing-cla
 returns-then-piece-missing-clause-good g c = λ unread fed h.
     let some : 0 < length c.args.self.now.cut.items = search rules in
     let short : length c.args.self.now.cut.items + length c.args.piece.now < c.args.size = search rules in
-    cut_still c.args.size c.args.positions.now c.args.n unread c.args.self.now _ fed c.args.piece.now h some refl
+    cut_still c.args.size c.args.positions.now c.args.n unread c.args.self.now _ fed c.args.piece.now h
+    some refl
     c.in_ok-extend_from_slice.ensures.items short
 
 pub decode_cut-requires-clause-shape : goal.decode_cut-requires-clause-shape
@@ -34,7 +35,8 @@ returns-in_err-decode_cut-clause-good g c = λ unread fed h.
     refused _ _ c.from_residual-in_err-decode_cut.result e c.from_residual-in_err-decode_cut.ensures.1
     (subst (λ all. (e ≡ fault.OutOfMemory) ⊎ HasFault size positions n all e)
     (parts_joined fed piece missing)
-    (faulty_longer size positions n (fed ++ take missing piece) (take (length piece - missing) (drop missing piece)) e
+    (faulty_longer size positions n (fed ++ take missing piece) (take (length piece - missing) (drop missing piece))
+    e
     (c.in_err-decode_cut.ensures.good unread fed h)))
 
 pub decode_run-requires-2-clause-shape : goal.decode_run-requires-2-clause-shape

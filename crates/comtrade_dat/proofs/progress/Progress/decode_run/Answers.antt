@@ -62,7 +62,8 @@ returns-in_ok-extend_from_slice-clause-good g c = λ unread fed h.
     subst (λ k. length run < size * (k + 1)) (sym all) (past_whole size (length run) some) in
     let next : size * (count + 1) ≡ size * count + size = omega arith in
     record {
-      decoded = decoded_further size c.args.positions.now unread p.decoded c.take_run.new.self (fed ++ run) run
+      decoded = decoded_further size c.args.positions.now unread p.decoded c.take_run.new.self (fed ++ run)
+          run
           count (decoded_longer size c.args.positions.now unread p.decoded fed run h.decoded) is whole
           c.in_ok-take_run.ensures.value c.in_ok-take_run.ensures.read c.in_ok-take_run.ensures.next;
       within = omega (arith, index, to_come);
@@ -92,7 +93,8 @@ returns-else-count-to_come-clause-good g c = λ unread fed h.
     let index : c.take_run.new.self.next.index ≡ p.decoded.next.index + count =
     ap (λ (start : RunStart). start.index) c.in_ok-take_run.ensures.next in
     record {
-      decoded = decoded_further size c.args.positions.now unread p.decoded c.take_run.new.self (fed ++ run) run
+      decoded = decoded_further size c.args.positions.now unread p.decoded c.take_run.new.self (fed ++ run)
+          run
           count (decoded_longer size c.args.positions.now unread p.decoded fed run h.decoded) is
           (whole_run size count (length run) few) c.in_ok-take_run.ensures.value
           c.in_ok-take_run.ensures.read c.in_ok-take_run.ensures.next;

@@ -26,11 +26,13 @@ pub returns-clause-value : goal.returns-clause-value
 returns-clause-value c = λ positions unread fed h.
     let counted : IsCounted c.args.size positions c.args.n unread c.args.self fed =
     subst (IsFedWith c.args.size positions c.args.n unread c.args.self fed) c.in_default.is h in
-    let good : judged_count c.args.size c.args.self.decoded.next.index c.args.self.bytes c.args.n ≡ Ok (tt {0}) =
+    let good : judged_count c.args.size c.args.self.decoded.next.index c.args.self.bytes c.args.n
+    ≡ Ok (tt {0}) =
     sym c.judge_end.ensures ∙ c.in_ok-judge_end.was in
     record {
       decoded = counted.good.decoded;
-      all = all_there c.args.size c.args.self.decoded.next.index c.args.self.bytes c.args.n counted.good.within
+      all = all_there c.args.size c.args.self.decoded.next.index c.args.self.bytes c.args.n
+          counted.good.within
           good;
       judged = count_decides c.args.size positions c.args.n unread c.args.self fed counted ∙ good;
     }

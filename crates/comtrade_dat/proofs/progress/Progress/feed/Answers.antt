@@ -32,5 +32,6 @@ returns-in-Ok-clause-fed g c = λ unread fed h.
       bytes = c.in-Ok.ensures.bytes
           ∙ (ap (λ k. k + length piece) counted.bytes ∙ sym (length-append fed piece));
     } in
-    subst (IsFedWith size positions n unread later (fed ++ piece)) (sym (c.in-Ok.ensures.fault ∙ c.in_default.is))
+    subst (IsFedWith size positions n unread later (fed ++ piece))
+    (sym (c.in-Ok.ensures.fault ∙ c.in_default.is))
     on
