@@ -1,8 +1,8 @@
 #!/bin/sh
 # A stress of chains: seven lanes and four sessions in threads over the generated recording of a seed, eight
 # chains one after another and a million queries in all. Prints what was counted, and ends with 1 where an
-# answer was not as it should be. The word is the seed, 1 where there is none. Outside the gate: wants 2 GB,
-# and a copy of the repository in TMPDIR, which `rt run` builds. The files of chain_stress/ have a further
+# answer was not as it should be. The word is the seed, 1 where there is none. Outside the gate: wants a copy
+# of the repository in TMPDIR, which `rt run` proves and builds. The files of chain_stress/ have a further
 # ending, since the gate refuses sources that no crate has.
 set -e
 home=$(cd "$(dirname "$0")/.." && pwd)
