@@ -1,7 +1,8 @@
 #!/bin/sh
-# Times `intervals` on two recordings of ten million samples, on three channels of 13.4 million and on sixteen of two
-# million, and `check` on a cfg of a megabyte and 1,998 channels, against plain Rust that does the same steps, and compares
-# their output. Outside the gate: wants rustc, python3 and a gigabyte for files.
+# Times `intervals` on two recordings of ten million samples, on three channels of 13.4 million and on sixteen of
+# two million, and `check` on a cfg of a megabyte and 1,998 channels, against plain Rust that does the same steps,
+# and compares their output; then `analyse` on all processors and on one. Outside the gate: wants rustc, python3,
+# taskset and a gigabyte for files.
 set -e
 home=$(cd "$(dirname "$0")/.." && pwd)
 work=$(mktemp -d)
@@ -38,6 +39,31 @@ print(f"{' '.join(words)}: proved {proved * 1000:.1f} ms, plain Rust {unproved *
 PYTHON
 }
 
+# lanes NAME: `analyse` on a recording whose report by `intervals` was compared
+lanes() {
+    "$home/crates/pqa/out/pqa" intervals --udin 230000 "$1.cfg" "$1.dat" >proved.out
+    "$home/crates/pqa/out/pqa" analyse --udin 230000 "$1.cfg" "$1.dat" >lanes.out
+    cmp proved.out lanes.out
+    python3 - "$home/crates/pqa/out/pqa" "$1" <<'PYTHON'
+import os, subprocess, sys, time
+
+program, name = sys.argv[1:]
+words = [program, "analyse", "--udin", "230000", f"{name}.cfg", f"{name}.dat"]
+
+def best(words):
+    times = []
+    for _ in range(10):
+        start = time.perf_counter()
+        subprocess.run(words, stdout=subprocess.DEVNULL, check=True)
+        times.append(time.perf_counter() - start)
+    return min(times)
+
+several, one = best(words), best(["taskset", "-c", "0", *words])
+print(f"analyse {name}: {several * 1000:.0f} ms on {os.cpu_count()} processors, {one * 1000:.0f} ms on one,"
+      f" ratio {several / one:.2f}")
+PYTHON
+}
+
 compare plain intervals --udin 230000 largest.cfg largest.dat
 compare plain intervals --udin 230000 dips.cfg dips.dat
 compare plain intervals --udin 230000 three.cfg three.dat
@@ -53,4 +79,7 @@ for name, channels in [("largest", 1), ("three", 3), ("sixteen", 16)]:
     samples = dat // (8 + 2 * channels) * channels
     print(f"{name}: {peak / 1e6:.0f} MB at the peak; the dat and 8 bytes a sample are {(dat + 8 * samples) / 1e6:.0f} MB")
 PYTHON
+for name in largest three sixteen; do
+    lanes "$name"
+done
 compare plain_check check many.cfg
