@@ -1,2 +1,3 @@
 pub mod LaneSource
+pub mod LaneSources
 pub mod Sampler

@@ -3,6 +3,7 @@ ghost use Rattle.std.specs.Prelude.{◌≡◌, ◌<◌, IfOk};
 ghost use Rattle.std.specs.Iterator.{YieldsFirst};
 ghost use Rattle.lanes.specs.Lane.{lane_count, lane_items, recorded_readings, windows_at};
 ghost use Rattle.lane_sources.specs.LaneSource.{items_left};
+ghost use Rattle.lane_sources.specs.LaneSources.{AreSpansOf};
 ghost use Rattle.pq_sequence.specs.MeasuredRecording.{channel_count};
 
 use crate::sampler::Sampler;
@@ -12,6 +13,7 @@ use lanes::LaneItem;
 use pq_base::Recording;
 use pq_sequence::{clock_of, recorded_rule};
 use std::alloc::{AllocError, Global};
+use ten_twelve::Span;
 
 /// What gives the items of a lane.
 #[derive(Drop)]
@@ -25,7 +27,7 @@ pub enum LaneKind<'r> {
 }
 
 impl<'r> LaneKind<'r> {
-    /// What gives all items of a lane.
+    /// What gives all items of a lane, of a recording with these basic intervals.
     ///
     /// # Errors
     ///
@@ -34,15 +36,17 @@ impl<'r> LaneKind<'r> {
     pub fn open(
         alloc: Global,
         recording: &'r Recording,
+        spans: &[Span],
         lane: u32,
     ) -> Result<LaneKind<'r>, AllocError>
-        requires { lane < lane_count recording.now }
+        requires inside { lane < lane_count recording.now }
+        requires spans { AreSpansOf recording.now spans.now }
         ensures { IfOk result (λ k. items_left k ≡ lane_items recording.now lane) }
     {
         if lane == 2 * recording.channels() {
             Ok(LaneKind::Frequency(readings(recording)))
         } else if lane % 2 == 0 {
-            Ok(LaneKind::Sampler(Sampler::open(alloc, recording, lane / 2)?))
+            Ok(LaneKind::Sampler(Sampler::open(alloc, recording, spans, lane / 2)?))
         } else {
             Ok(LaneKind::Detector(windows(recording, lane / 2)))
         }

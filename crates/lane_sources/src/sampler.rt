@@ -1,11 +1,11 @@
 // The basic values of a channel, one after another.
 ghost use Rattle.std.specs.Prelude.{◌≡◌, ◌<◌, ◌≤◌, length, IfOk};
 ghost use Rattle.std.specs.Iterator.{YieldsFirst, item_count};
+ghost use Rattle.lane_sources.specs.LaneSources.{AreSpansOf};
 ghost use Rattle.lanes.specs.Lane.{sampler_items, value_over};
 ghost use Rattle.pq_sequence.specs.MeasuredRecording.{channel_count};
 ghost use Rattle.pq_words.specs.Samples.{AreSamples};
 
-use crate::spans::basic_spans;
 use fixed_rms::rms;
 use lanes::LaneItem;
 use pq_base::Recording;
@@ -37,7 +37,7 @@ impl<'r> Model for Sampler<'r> {
 }
 
 impl<'r> Sampler<'r> {
-    /// The basic values of the channel at a position.
+    /// The basic values of the channel at a position, over the recording's basic intervals.
     ///
     /// # Errors
     ///
@@ -45,15 +45,16 @@ impl<'r> Sampler<'r> {
     pub fn open(
         alloc: Global,
         recording: &'r Recording,
+        spans: &[Span],
         position: u32,
     ) -> Result<Sampler<'r>, AllocError>
-        requires { position < channel_count recording.now }
+        requires inside { position < channel_count recording.now }
+        requires spans { AreSpansOf recording.now spans.now }
         ensures { IfOk result (λ s. s ≡ sampler_items recording.now position) }
     {
-        let spans = basic_spans(alloc, recording)?;
         Ok(Sampler {
             samples: recording.samples(position),
-            spans,
+            spans: Vec::from_slice(alloc, spans)?,
             index: 0,
         })
     }

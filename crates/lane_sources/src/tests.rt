@@ -2,7 +2,7 @@
 ghost use Rattle.std.specs.Prelude.{◌≡◌, ◌≤◌, length, All, IfOk};
 ghost use Rattle.pq_words.specs.Magnitude.{IsWithin};
 
-use crate::LaneSource;
+use crate::LaneSources;
 use event_detect::Window;
 use freq10s::Reading;
 use lanes::LaneItem;
@@ -67,16 +67,17 @@ fn is_window(item: Option<LaneItem>, from: u64, to: u64) -> bool {
 fn lanes_of_two_intervals(rt: HostRuntime) -> Result<(), Fail> {
     let alloc = rt.alloc();
     let recording = sine(alloc, 1000, 552)?;
-    let mut values = sent(LaneSource::open(alloc, &recording, 0)?);
+    let sources = LaneSources::new(alloc, &recording)?;
+    let mut values = sent(sources.open(alloc, 0)?);
     assert!(rt; is_value(values.next(), 24, 264));
     assert!(rt; is_value(values.next(), 264, 504));
     assert!(rt; values.next().is_none());
-    let mut windows = LaneSource::open(alloc, &recording, 1)?;
+    let mut windows = sources.open(alloc, 1)?;
     for half in 0..42 {
         assert!(rt; is_window(windows.next(), 24 + 12 * half, 48 + 12 * half));
     }
     assert!(rt; windows.next().is_none());
-    let mut readings = LaneSource::open(alloc, &recording, 2)?;
+    let mut readings = sources.open(alloc, 2)?;
     assert!(rt; readings.next().is_none());
     Ok(())
 }
@@ -86,7 +87,7 @@ fn values_over_a_tick(rt: HostRuntime) -> Result<(), Fail> {
     let alloc = rt.alloc();
     // Noon is at place 594, and the first cycle boundary after it at 600.
     let recording = sine(alloc, -495, 1200)?;
-    let mut values = LaneSource::open(alloc, &recording, 0)?;
+    let mut values = LaneSources::new(alloc, &recording)?.open(alloc, 0)?;
     let spans: [(u64, u64); 5] = [(24, 264), (264, 504), (504, 744), (600, 840), (840, 1080)];
     for (start, end) in spans {
         assert!(rt; is_value(values.next(), start, end));
@@ -99,7 +100,7 @@ fn values_over_a_tick(rt: HostRuntime) -> Result<(), Fail> {
 fn reading_of_ten_seconds(rt: HostRuntime) -> Result<(), Fail> {
     let alloc = rt.alloc();
     let recording = sine(alloc, 9995, 12_006)?;
-    let mut readings = LaneSource::open(alloc, &recording, 2)?;
+    let mut readings = LaneSources::new(alloc, &recording)?.open(alloc, 2)?;
     let Some(
         LaneItem::Reading(
             Reading {

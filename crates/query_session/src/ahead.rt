@@ -6,9 +6,8 @@ ghost use Rattle.lanes.specs.Lane.{lane_count, lane_items};
 ghost use Rattle.query_session.specs.Ahead.{AreKeys, IsFirstNext, items_left, reach_before};
 
 use interval_ledger::Ledger;
-use lane_sources::LaneSource;
+use lane_sources::{LaneSource, LaneSources};
 use lanes::LaneItem;
-use pq_base::Recording;
 use std::alloc::{AllocError, Global};
 use std::collections::VecDeque;
 use std::marker::Model;
@@ -40,15 +39,15 @@ impl<'r> Ahead<'r> {
     // All of a lane's items, none measured.
     pub(crate) fn open(
         alloc: Global,
-        recording: &'r Recording,
+        sources: &LaneSources<'r>,
         lane: u32,
     ) -> Result<Ahead<'r>, AllocError>
-        requires { lane < lane_count recording.now }
+        requires { lane < lane_count sources.now }
         ensures measured { IfOk result (λ a. a.measured ≡ []) }
-        ensures unmeasured { IfOk result (λ a. a.unmeasured ≡ lane_items recording.now lane) }
+        ensures unmeasured { IfOk result (λ a. a.unmeasured ≡ lane_items sources.now lane) }
     {
         let next = VecDeque::with_capacity(alloc, MEASURED)?;
-        let source = LaneSource::open(alloc, recording, lane)?;
+        let source = sources.open(alloc, lane)?;
         Ok(Ahead { next, source })
     }
 

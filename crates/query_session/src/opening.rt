@@ -17,6 +17,7 @@ use crate::session::{Session, SessionOf};
 use crate::stage::Stage;
 use event_detect::Limits;
 use interval_ledger::Ledger;
+use lane_sources::LaneSources;
 use pq_base::{OutOfMemory, Recording};
 use progress_words::{Closed, LanePass, ReadPass, Words};
 use std::alloc::{AllocError, Global};
@@ -35,12 +36,13 @@ impl ChainOf<Ledger> {
         ensures session { IfOk result (λ t. IsFreshSession t.0 recording.now limits.now t.2) }
     {
         let lanes = 2 * recording.channels() + 1;
+        let sources = LaneSources::new(alloc, recording)?;
         let ledger = Ledger::open(alloc, recording, limits)?;
         let Ok((words, passes, pass)) = Words::open(alloc, ledger) else {
             return Err(OutOfMemory);
         };
         let chain = ChainOf { words, lanes };
-        let seats = make_seats(alloc, &chain, recording, passes)?;
+        let seats = make_seats(alloc, &chain, &sources, passes)?;
         let session = make_session(recording, pass);
         Ok((chain, seats, session))
     }
@@ -59,19 +61,19 @@ impl ChainOf<Ledger> {
 fn make_seats<'r>(
     alloc: Global,
     chain: &Chain,
-    recording: &'r Recording,
+    sources: &LaneSources<'r>,
     passes: Vec<LanePass<Ledger>>,
 ) -> Result<Vec<LaneSeat<'r>>, AllocError>
     requires fresh { AreFreshLanes chain.now.words (opening_of chain.now.words) 0 passes.items }
-    requires lanes { vec_len passes ≡ lane_count recording.now }
-    requires opening { IsOpeningOf recording.now (limits_at chain.now) (opening_of chain.now.words) }
-    ensures count { IfOk result (λ v. vec_len v ≡ lane_count recording.now) }
-    ensures seats { IfOk result (λ v. AreFreshSeats chain.now recording.now (limits_at chain.now) 0 v.items) }
+    requires lanes { vec_len passes ≡ lane_count sources.now }
+    requires opening { IsOpeningOf sources.now (limits_at chain.now) (opening_of chain.now.words) }
+    ensures count { IfOk result (λ v. vec_len v ≡ lane_count sources.now) }
+    ensures seats { IfOk result (λ v. AreFreshSeats chain.now sources.now (limits_at chain.now) 0 v.items) }
 {
     let mut seats = Vec::with_capacity(alloc, passes.len())?;
     let mut lane = 0;
     for pass in passes {
-        let seat = make_seat(alloc, recording, lane, pass)?;
+        let seat = make_seat(alloc, sources, lane, pass)?;
         seats.push(seat)?;
         lane += 1;
     }
@@ -81,19 +83,19 @@ fn make_seats<'r>(
 // The seat of a fresh pass.
 fn make_seat<'r>(
     alloc: Global,
-    recording: &'r Recording,
+    sources: &LaneSources<'r>,
     lane: u32,
     pass: LanePass<Ledger>,
 ) -> Result<LaneSeat<'r>, AllocError>
-    requires fresh { IsFreshLaneOf recording.now lane (lane_view pass) }
-    requires inside { lane < lane_count recording.now }
+    requires fresh { IsFreshLaneOf sources.now lane (lane_view pass) }
+    requires inside { lane < lane_count sources.now }
     ensures { IfOk result (λ s. IsSeatFrom pass lane s) }
 {
-    let ahead = Ahead::open(alloc, recording, lane)?;
+    let ahead = Ahead::open(alloc, sources, lane)?;
     Ok(SeatOf {
         pass,
         lane,
-        samples: recording.len(),
+        samples: sources.recording().len(),
         count: 0,
         ahead,
         stage: SeatStage::Idle,

@@ -4,7 +4,7 @@ ghost use Rattle.lanes.specs.Lane.{lane_count, lane_items, reach};
 ghost use Rattle.pq_sequence.specs.Lists.{Gives};
 ghost use Rattle.worked_ledger.specs.Measured.{GivesLanes};
 
-use lane_sources::LaneSource;
+use lane_sources::LaneSources;
 use lanes::LaneItem;
 use pq_base::Recording;
 use std::alloc::{AllocError, Global};
@@ -82,20 +82,25 @@ impl<'r> Measured<'r> {
 fn all_lanes(alloc: Global, recording: &Recording) -> Result<Vec<Vec<LaneItem>>, AllocError>
     ensures { GivesLanes result recording.now }
 {
+    let sources = LaneSources::new(alloc, recording)?;
     let mut lanes = Vec::new(alloc);
     for lane in 0..2 * recording.channels() + 1 {
-        lanes.push(lane_list(alloc, recording, lane)?)?;
+        lanes.push(lane_list(alloc, &sources, lane)?)?;
     }
     Ok(lanes)
 }
 
 // The items of a lane.
-fn lane_list(alloc: Global, recording: &Recording, lane: u32) -> Result<Vec<LaneItem>, AllocError>
-    requires { lane < lane_count recording.now }
-    ensures { Gives result (lane_items recording.now lane) }
+fn lane_list(
+    alloc: Global,
+    sources: &LaneSources<'_>,
+    lane: u32,
+) -> Result<Vec<LaneItem>, AllocError>
+    requires { lane < lane_count sources.now }
+    ensures { Gives result (lane_items sources.now lane) }
 {
     let mut items = Vec::new(alloc);
-    for item in LaneSource::open(alloc, recording, lane)? {
+    for item in sources.open(alloc, lane)? {
         items.push(item)?;
     }
     Ok(items)

@@ -8,7 +8,7 @@ pub loop-pass-preserved : goal.loop-pass-preserved
 loop-pass-preserved c =
     let h = c.loop-pass.invariant in
     let chain = c.args.chain.now in
-    let r = c.args.recording.now in
+    let r = c.args.sources.now in
     let seat = c.in_ok-seat.seat in
     let lane = c.loop-pass.lane in
     let value = opening_of chain.words in let limits = limits_at chain in

@@ -10,7 +10,7 @@ invariant-loop-pass l = record {
   can : goal.iterator-loop-pass.can_next l.pass-iterator;
   ends : goal.iterator-loop-pass.is_finite l.pass-iterator;
   size : length l.seats.items ≡ l.lane;
-  left : l.lane + length (into_iter_items l.pass-iterator) ≡ lane_count l.fn.recording;
+  left : l.lane + length (into_iter_items l.pass-iterator) ≡ lane_count l.fn.sources;
   passes : AreFreshLanes l.chain.words (opening_of l.chain.words) l.lane (into_iter_items l.pass-iterator);
-  seats : AreFreshSeats l.chain l.fn.recording (limits_at l.chain) 0 l.seats.items;
+  seats : AreFreshSeats l.chain l.fn.sources (limits_at l.chain) 0 l.seats.items;
 }

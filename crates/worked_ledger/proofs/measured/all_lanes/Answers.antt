@@ -23,5 +23,6 @@ loop-lane-preserved c =
     ap (map view) c.in_ok-push.ensures.items
     ∙ map-append view c.loop-lane.lanes.items (items ∷ [])
     ∙ ap (λ lists. lists ++ view items ∷ []) c.loop-lane.invariant
-    ∙ ap (λ list. map f (numbers_below lane) ++ list ∷ []) c.in_ok-lane_list.ensures
+    ∙ ap (λ list. map f (numbers_below lane) ++ list ∷ [])
+    (c.in_ok-lane_list.ensures ∙ ap (λ r. lane_items r lane) c.in_ok-sources.ensures)
     ∙ sym (map_below_push f lane)

@@ -4,4 +4,4 @@ use Rattle.worked_ledger.proofs.measured.lane_list.Given as goal
 
 -- the items so far, and those that are left
 abbrev pub invariant-loop-item : goal.invariant-loop-item
-invariant-loop-item l = l.items.items ++ l.item-iterator ≡ lane_items l.recording l.lane
+invariant-loop-item l = l.items.items ++ l.item-iterator ≡ lane_items l.sources l.lane
