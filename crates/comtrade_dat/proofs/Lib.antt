@@ -1,6 +1,7 @@
 pub mod ChannelLemmas
 pub mod DatLemmas
 pub mod FaultLemmas
+pub mod GoodLemmas
 pub mod JudgingLemmas
 pub mod ProgressLemmas
 pub mod ReadBackLemmas

@@ -46,7 +46,7 @@ record_later size dat base index =
 -- ---- sample numbers
 
 -- after the first record
-number_of_record : (size : ℕ) (before : Option ℕ) (run : Text) (index k : ℕ) → index ≡ k + 1 →
+pub number_of_record : (size : ℕ) (before : Option ℕ) (run : Text) (index k : ℕ) → index ≡ k + 1 →
     number_before size before run index ≡ Some (number_in (record_at size run k))
 number_of_record size before run index k is =
     let no : (index == 0) ≡ false = grind (arith, nat_tests) in

@@ -1,11 +1,12 @@
 -- The subject: records that are judged and read by themselves, as a dat comes in pieces. A run is bytes of a
 -- dat from the beginning of a record on.
-use Rattle.std.specs.Prelude.{ℕ, ◌+◌, ◌-◌, ◌%◌, ◌^◌, Bool, true, ◌==◌, if◌then◌else◌, List, map, find, Option, Some, None, Result}
+use Rattle.std.specs.Prelude.{◌≡◌, ◌≢◌, ℕ, ◌+◌, ◌-◌, ◌%◌, ◌^◌, ◌<◌, ◌≤◌, Bool, true, ◌==◌, if◌then◌else◌, List, All, map, find, Option, Some, None, Result}
 use Rattle.std.specs.List.{range_with_len}
-use Rattle.comtrade_dat.specs.BinaryRecord.{number_in, record_at}
+use Rattle.comtrade_dat.specs.BinaryRecord.{count_in, number_in, record_at}
 use Rattle.comtrade_dat.specs.Samples.{is_missing, none_missing}
 use Rattle.comtrade_dat.specs.declared.dat_fault.DatFault.{DatFault}
 use Rattle.comtrade_dat.specs.declared.dat_fault.DatFault.TheVariants as fault
+use Rattle.comtrade_dat.specs.declared.limits.TheConstants.{MISSING_COUNT}
 use Rattle.comtrade_dat.specs.declared.run_start.RunStart.{RunStart}
 use Rattle.pq_words.specs.FirstFault.{◌>>=◌, provided}
 use Rattle.pq_words.specs.Text.{Text}
@@ -47,3 +48,19 @@ start_after size start run n = record {
 -- where the run that is left after the first n records of a dat begins
 abbrev pub start_at : ℕ → Text → ℕ → RunStart
 start_at size dat n = record { index = n; before = number_before size None dat n }
+
+-- the numbers of the records from an index to another, which is not included, follow those before them
+abbrev pub AreNumbered : ℕ → Option ℕ → Text → ℕ → ℕ → Type 0
+AreNumbered size before run from end = (index : ℕ) → from ≤ index → index < end →
+    is_numbered_after (number_before size before run index) (number_in (record_at size run index)) ≡ true
+
+-- each of these records has a count at this position
+abbrev pub HaveCounts : ℕ → Text → ℕ → ℕ → ℕ → Type 0
+HaveCounts size run from end position = (index : ℕ) → from ≤ index → index < end →
+    count_in (record_at size run index) position ≢ MISSING_COUNT
+
+-- none of these records is at fault
+pub record AreGood (size : ℕ) (positions : List ℕ) (before : Option ℕ) (run : Text) (from end : ℕ) : Type 0
+  where
+    pub numbered : AreNumbered size before run from end
+    pub counted : All (HaveCounts size run from end) positions

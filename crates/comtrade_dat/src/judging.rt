@@ -1,17 +1,68 @@
 // The judgement of records, in order.
 ghost use Rattle.std.specs.Prelude.{◌≡◌, ◌+◌, ◌*◌, ◌^◌, ◌≤◌, ◌<◌, All, IfSome, Ok, find, length};
 ghost use Rattle.comtrade_dat.specs.Channel.{IsLayout};
-ghost use Rattle.comtrade_dat.specs.Run.{is_numbered_after, judged_bytes, judged_in, judged_run};
+ghost use Rattle.comtrade_dat.specs.Run.{judged_bytes, judged_in, judged_run};
 ghost use Rattle.comtrade_dat.specs.Samples.{first_fault, is_missing};
 ghost use Rattle.pq_words.specs.declared.limits.TheConstants.{MOST_SAMPLES};
 
 use crate::dat_fault::DatFault;
 use crate::fields::{count_in, number_in, record_at};
+use crate::good_records::{are_good, is_numbered_after};
 use crate::limits::MISSING_COUNT;
 use crate::run_start::{RunStart, number_before};
 
+// How many records are looked at at once: so few that they stay near.
+const AT_ONCE: usize = 1024;
+
 // The records of a run from an index to another, which is not included, in order. Those before them are good.
 pub(crate) fn judge_records(
+    size: usize,
+    positions: &[u32],
+    start: RunStart,
+    run: &[u8],
+    from: usize,
+    end: usize,
+) -> Result<(), DatFault>
+    requires forward { from ≤ end }
+    requires whole { size * end ≤ length run.now }
+    requires few { start.index + end ≤ MOST_SAMPLES }
+    requires layout { IsLayout size positions.now }
+    requires good { first_fault (judged_run size positions.now start run.now from) ≡ Ok (tt {0}) }
+    ensures { result ≡ first_fault (judged_run size positions.now start run.now end) }
+{
+    let mut index = from;
+    while index < end {
+        let next = index + AT_ONCE.min(end - index);
+        judge_block(size, positions, start, run, index, next)?;
+        index = next;
+    }
+    Ok(())
+}
+
+// The same of a few records. Most are good as a whole, which is told sooner than the judgement of each.
+fn judge_block(
+    size: usize,
+    positions: &[u32],
+    start: RunStart,
+    run: &[u8],
+    from: usize,
+    end: usize,
+) -> Result<(), DatFault>
+    requires forward { from ≤ end }
+    requires whole { size * end ≤ length run.now }
+    requires few { start.index + end ≤ MOST_SAMPLES }
+    requires layout { IsLayout size positions.now }
+    requires good { first_fault (judged_run size positions.now start run.now from) ≡ Ok (tt {0}) }
+    ensures { result ≡ first_fault (judged_run size positions.now start run.now end) }
+{
+    if are_good(size, positions, start.before, run, from, end) {
+        return Ok(());
+    }
+    judge_each(size, positions, start, run, from, end)
+}
+
+// The same, record by record.
+fn judge_each(
     size: usize,
     positions: &[u32],
     start: RunStart,
@@ -72,16 +123,6 @@ fn judge_bytes(
             channel: position + 1,
         }),
         None => Ok(()),
-    }
-}
-
-// Whether a number follows that of the record before, where there is one.
-fn is_numbered_after(before: Option<u32>, number: u32) -> bool
-    ensures { result ≡ is_numbered_after before number }
-{
-    match before {
-        Some(before) => number == before.wrapping_add(1),
-        None => true,
     }
 }
 

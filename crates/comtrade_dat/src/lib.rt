@@ -14,6 +14,7 @@ mod dat_fault;
 mod dat_reader;
 mod decoded;
 mod fields;
+mod good_records;
 mod judging;
 mod laws;
 mod limits;

@@ -13,7 +13,7 @@ use status_text::Status;
 use std::alloc::Global;
 
 // How many bytes are asked for at once: enough that several threads are worth their start.
-const PIECE: usize = 1_048_576;
+const PIECE: usize = 4_194_304;
 
 /// Feeds a reader with the dat of this name, piece by piece, or gives the status of a call that can't have
 /// it. The shelf is asked for it once, and all of it is read, whatever the reader finds in it.

@@ -16,9 +16,8 @@ returns-in_err-decoded-clause-value c = λ cfg s fed h.
     let e = c.in_err-decoded.field-0.0 in
     refused_dat cfg s fed c.from_residual.result e c.from_residual.ensures.1
     (reader_ends (cfg_view c.self.inside.cfg.now) (selection_view c.self.inside.selection.now)
-    c.record_size.result c.self.inside.progress (Err e) c.record_size.ensures.value c.in_err-decoded.ensures.value
-    cfg s
-    fed (subst (HasRead cfg s fed) (sym c.self.view_is) h))
+    c.record_size.result c.self.inside.progress (Err e) c.record_size.ensures.value
+    c.in_err-decoded.ensures.value cfg s fed (subst (HasRead cfg s fed) (sym c.self.view_is) h))
 
 pub recording-requires-clause-whole : goal.recording-requires-clause-whole
 recording-requires-clause-whole c =

@@ -35,8 +35,8 @@ returns-in_err-decode_cut-clause-good g c = λ unread fed h.
     refused _ _ c.from_residual-in_err-decode_cut.result e c.from_residual-in_err-decode_cut.ensures.1
     (subst (λ all. (e ≡ fault.OutOfMemory) ⊎ HasFault size positions n all e)
     (parts_joined fed piece missing)
-    (faulty_longer size positions n (fed ++ take missing piece) (take (length piece - missing) (drop missing piece))
-    e
+    (faulty_longer size positions n (fed ++ take missing piece)
+    (take (length piece - missing) (drop missing piece)) e
     (c.in_err-decode_cut.ensures.good unread fed h)))
 
 pub decode_run-requires-2-clause-shape : goal.decode_run-requires-2-clause-shape
