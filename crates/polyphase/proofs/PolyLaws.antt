@@ -143,7 +143,8 @@ idle_passes latest dips swells interruptions position window idle alike =
     let each : (kind : Kind) → SeesMoreOfKind (watch_of old kind) (watch_of new kind) (at kind) =
     λ kind. elim kind as (λ k. SeesMoreOfKind (watch_of old k) (watch_of new k) (at k)) [
       | Dip ↦ idle_stays (watch Dip dips.running) Dip (at Dip) dip (alike Dip ∙ idle.dip.stays)
-      | Swell ↦ idle_stays (watch Swell swells.running) Swell (at Swell) swell (alike Swell ∙ idle.swell.stays)
+      | Swell ↦
+          idle_stays (watch Swell swells.running) Swell (at Swell) swell (alike Swell ∙ idle.swell.stays)
       | Interruption ↦
           idle_stays (watch Interruption interruptions.running) Interruption (at Interruption) interruption
           (alike Interruption ∙ idle.interruption.stays)

@@ -1,8 +1,8 @@
 // The item of a row, by its ten fields.
 ghost use Rattle.std.specs.Prelude.{◌≡◌, ◌≤◌, ℕ, true, false, ℤ, Option, Some, IfSome};
-ghost use Rattle.pq_report.specs.ReportReading.{field_list, fields_read, is_channel_of, is_count_of};
-ghost use Rattle.pq_report.specs.ReportReading.{is_place, item_behind, item_with, number_read, passing};
-ghost use Rattle.pq_report.specs.ReportReading.{span_of, tick_read};
+ghost use Rattle.pq_report.specs.ReportReading.{field_list, fields_read, has_ticks, is_channel_of};
+ghost use Rattle.pq_report.specs.ReportReading.{is_count_of, is_place, item_behind, item_with, number_read};
+ghost use Rattle.pq_report.specs.ReportReading.{passing, span_of, tick_read};
 ghost use Rattle.pq_report.specs.ReportText.{is_event};
 ghost use Rattle.pq_time.specs.Time.{IsClock};
 
@@ -128,6 +128,39 @@ fn record_with(span: RowSpan, tick: i64, value: u64, count: u64, flagged: bool) 
     requires { is_event span.kind ≡ false }
     ensures { result ≡ item_with span (Some tick) value count flagged }
 {
+    if span.kind.has_ticks() {
+        return tick_record_with(span, tick, value, count, flagged);
+    }
+    let RowSpan {
+        kind,
+        channel,
+        start,
+        end,
+    } = span;
+    match kind {
+        ItemKind::Basic => Item::Basic {
+            channel,
+            start,
+            end,
+            cycles: count,
+            value,
+            flagged,
+        },
+        _ => Item::Short {
+            channel,
+            start,
+            end,
+            value,
+            flagged,
+        },
+    }
+}
+
+// The record of a kind that begins at ticks.
+fn tick_record_with(span: RowSpan, tick: i64, value: u64, count: u64, flagged: bool) -> Item
+    requires { has_ticks span.kind ≡ true }
+    ensures { result ≡ item_with span (Some tick) value count flagged }
+{
     let RowSpan {
         kind,
         channel,
@@ -141,21 +174,6 @@ fn record_with(span: RowSpan, tick: i64, value: u64, count: u64, flagged: bool) 
             end,
             cycles: count,
             microhertz: value,
-            flagged,
-        },
-        ItemKind::Basic => Item::Basic {
-            channel,
-            start,
-            end,
-            cycles: count,
-            value,
-            flagged,
-        },
-        ItemKind::Short => Item::Short {
-            channel,
-            start,
-            end,
-            value,
             flagged,
         },
         ItemKind::Ten => Item::Ten {

@@ -14,7 +14,7 @@ use Rattle.pq_sequence.proofs.NeighbourLaws.{IsIn, LinkedFrom, linked_at}
 use Rattle.pq_words.proofs.PrefixLaws.{FailsOn}
 use Rattle.settled_laws.proofs.BasicLaws.{is_new, Succeeds, AreLinked}
 use Rattle.settled_laws.proofs.PrefixRuns.{IsRunIn}
-use Rattle.settled_laws.proofs.ShortLaws.{IsAfter, basic_end}
+use Rattle.settled_laws.proofs.ShortLaws.{basic_end}
 use Rattle.settled_laws.proofs.TenLaws.{EndsSegment}
 use Rattle.settled_laws.proofs.TickLaws.{EndsRise}
 use Rattle.ten_twelve.specs.declared.span.Span.{Span}
@@ -66,24 +66,11 @@ module _ (r : Recorded) (cb starts places : List ℕ) (events : List Event) wher
       ap (λ b. b ∷ map basic_at ys) first
       ∙ ap (λ bs. dressed places (is_touched events) None (bare_of r cb y) ∷ bs) (built_from y ys l.1)
 
--- ---- in two parts
+-- ---- the start of the last, and flags
 
 abbrev pub last_start : Option ℕ → List Part → Option ℕ
 last_start before [] = before
 last_start before (p ∷ ps) = last_start (Some p.start) ps
-
-pub built_append : (places : List ℕ) (touched : ℕ → ℕ → Bool) (before : Option ℕ) (xs ys : List Part)
-    → built places touched before (xs ++ ys)
-    ≡ built places touched before xs ++ built places touched (last_start before xs) ys
-built_append places touched before [] ys = refl
-built_append places touched before (x ∷ xs) ys =
-    ap (λ bs. dressed places touched before x ∷ bs) (built_append places touched (Some x.start) xs ys)
-
-pub built_after : (w : ℕ) (places : List ℕ) (touched : ℕ → ℕ → Bool) (before : Option ℕ) (xs : List Part) →
-    AllByRecursion (λ p. w < p.end) xs → AllByRecursion (IsAfter w) (built places touched before xs)
-built_after w places touched before [] h = tt
-built_after w places touched before (x ∷ xs) h =
-    (h.0, built_after w places touched (Some x.start) xs h.1)
 
 -- what touches the same spans flags the same
 pub built_same : (places : List ℕ) (t u : ℕ → ℕ → Bool) (before : Option ℕ) (xs : List Part) →

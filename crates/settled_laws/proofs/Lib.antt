@@ -12,10 +12,8 @@ pub mod BuildLaws
 pub mod FewRuns
 pub mod FewBasics
 pub mod IntervalLaws
-pub mod FrontLaws
 pub mod CutLaws
 mod IntervalFacts
-pub mod ClimbLaws
 pub mod SpacedLaws
 pub mod ContinueLaws
 pub mod SettledEvents

@@ -23,11 +23,6 @@ pub all_from : {X : Type 0} (P Q : X → Type 0) → ((y : X) → P y → Q y) �
 all_from P Q f [] h = tt
 all_from P Q f (y ∷ ys) h = (f y h.0, all_from P Q f ys h.1)
 
-pub all_choose : {X : Type 0} (P : X → Type 0) (b : Bool) (us vs : List X) → AllByRecursion P us →
-    AllByRecursion P vs → AllByRecursion P (cond b us vs)
-all_choose P true us vs h g = h
-all_choose P false us vs h g = g
-
 pub all_append : {X : Type 0} (P : X → Type 0) (xs ys : List X) → AllByRecursion P xs → AllByRecursion P ys →
     AllByRecursion P (xs ++ ys)
 all_append P [] ys h g = g

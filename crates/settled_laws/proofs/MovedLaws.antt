@@ -1,12 +1,12 @@
--- Lists with the same elements: filters and joined lists of them have the same elements again.
-use Rattle.std.proofs.Common.{◌≡◌, ℕ, ◌+◌, Bool, true, false, cond, List, [], ◌∷◌, ◌++◌, filter, refl, sym, ◌∙◌, ap, arith}
+-- Lists with the same elements: filters of them have the same elements again.
+use Rattle.std.proofs.Common.{◌≡◌, ℕ, ◌+◌, Bool, true, false, cond, List, [], ◌∷◌, filter, refl, sym, ◌∙◌, ap, arith}
 use Rattle.std.specs.List.{sum_by}
 use Rattle.std.specs.declared.cmp.Ordering.{Ordering}
 use Rattle.std.specs.FinMap.{IsAntisymmetric}
 use Rattle.std.specs.Cmp.{IsTotalOrder}
-use Rattle.std.proofs.lemmas.List.Sums.{sum_by-append, sum_by-cons}
+use Rattle.std.proofs.lemmas.List.Sums.{sum_by-cons}
 use Rattle.pq_words.specs.Sorted.{in_order}
-use Rattle.polyphase.proofs.MovedLaws.{IsMoved, moved_append, moved_ordered, moved_order}
+use Rattle.polyphase.proofs.MovedLaws.{IsMoved, moved_ordered, moved_order}
 
 weight_kept : {X : Type 0} (p : X → Bool) (f : X → ℕ) (xs : List X) → sum_by f (filter p xs)
     ≡ sum_by (λ x. cond (p x) (f x) 0) xs
@@ -25,12 +25,6 @@ pub moved_filter : {X : Type 0} (p : X → Bool) (xs ys : List X) → IsMoved xs
     IsMoved (filter p xs) (filter p ys)
 moved_filter p xs ys h f = weight_kept p f xs ∙ h (λ x. cond (p x) (f x) 0) ∙ sym (weight_kept p f ys)
 
-pub moved_swap : {X : Type 0} (xs ys : List X) → IsMoved (xs ++ ys) (ys ++ xs)
-moved_swap xs ys f =
-    let a = sum_by-append f xs ys in
-    let b = sum_by-append f ys xs in
-    omega (arith, a, b)
-
 module _ {X : Type 0} (cmp : X → X → Ordering) where
   -- lists whose lists in order are one have the same elements
   pub order_moved : (xs ys : List X) → in_order cmp xs ≡ in_order cmp ys → IsMoved xs ys
@@ -40,8 +34,3 @@ module _ {X : Type 0} (cmp : X → X → Ordering) where
     -- the list in order is in order
     pub in_order_twice : (xs : List X) → in_order cmp (in_order cmp xs) ≡ in_order cmp xs
     in_order_twice xs = moved_order cmp total same (in_order cmp xs) xs (λ f. sym (moved_ordered cmp xs f))
-
-    pub order_append : (xs ys us vs : List X) → in_order cmp xs ≡ in_order cmp ys →
-        in_order cmp us ≡ in_order cmp vs → in_order cmp (xs ++ us) ≡ in_order cmp (ys ++ vs)
-    order_append xs ys us vs h g = moved_order cmp total same (xs ++ us) (ys ++ vs) (moved_append xs ys us vs
-        (order_moved xs ys h) (order_moved us vs g))

@@ -130,10 +130,6 @@ not_lt a w h = grind (arith, nat_tests, h)
 is_lt_true : (a w : ℕ) → a < w → nat_lt a w ≡ true
 is_lt_true a w h = grind (arith, nat_tests, h)
 
-and_false : (b : Bool) → (b && false) ≡ false
-and_false true = refl
-and_false false = refl
-
 and_true : (b : Bool) → (b && true) ≡ b
 and_true true = refl
 and_true false = refl

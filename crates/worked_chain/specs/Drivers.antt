@@ -1,5 +1,5 @@
--- What holds of a seat and of a session as a driver keeps them: they belong to the chain, and are at what their
--- phase says.
+-- What holds of a seat and of a session as a driver keeps them: they belong to the chain, and are at what
+-- their phase says.
 use Rattle.std.specs.Prelude.{ℕ, ◌≤◌, All}
 use Rattle.chain_core.specs.declared.phase.LanePhase.{LanePhase}
 use Rattle.chain_core.specs.declared.phase.LanePhase.TheVariants as lane

@@ -41,8 +41,8 @@ pub overflow_add-first : goal.overflow_add-first
 overflow_add-first c =
     let it = c.self.inside in
     let order = three_places c.in_ok-start.was c.in_ok-end.ensures.steps c.self.invariant in
-    let whole = whole_sum c.squares_between-second.result c.in_ok-start.was c.in_ok-end.ensures.steps c.self.invariant
-    c.squares_between-second.ensures in
+    let whole = whole_sum c.squares_between-second.result c.in_ok-start.was c.in_ok-end.ensures.steps
+    c.self.invariant c.squares_between-second.ensures in
     let within = squares_within it.samples.now c.in_ok-start.start c.in_ok-end.field-0.place
     c.self.invariant.samples (omega (arith, order.2)) in
     omega (arith, order.2, whole, within, c.self.invariant.samples.short)
@@ -58,8 +58,8 @@ pub window-requires-clause-within : goal.window-requires-clause-within
 window-requires-clause-within c =
     let it = c.self.inside in
     let order = three_places c.in_ok-start.was c.in_ok-end.ensures.steps c.self.invariant in
-    let whole = whole_sum c.squares_between-second.result c.in_ok-start.was c.in_ok-end.ensures.steps c.self.invariant
-    c.squares_between-second.ensures in
+    let whole = whole_sum c.squares_between-second.result c.in_ok-start.was c.in_ok-end.ensures.steps
+    c.self.invariant c.squares_between-second.ensures in
     let within = squares_within it.samples.now c.in_ok-start.start c.in_ok-end.field-0.place
     c.self.invariant.samples (omega (arith, order.2)) in
     omega (arith, whole, within)
@@ -68,7 +68,8 @@ window-requires-clause-within c =
 pub invariant_of-self-2 : goal.invariant_of-self-2
 invariant_of-self-2 c = record {
   samples = c.self.invariant.samples;
-  boundaries = fewer_boundaries _ _ _ (three_boundaries c.in_ok-start.was c.in_ok-end.ensures.steps c.self.invariant);
+  boundaries = fewer_boundaries _ _ _
+      (three_boundaries c.in_ok-start.was c.in_ok-end.ensures.steps c.self.invariant);
   sum = c.squares_between-second.ensures;
 }
 
@@ -81,8 +82,8 @@ returns c =
     let b = c.in_ok-start.middle in
     let end = c.in_ok-end.field-0 in
     let order = three_places c.in_ok-start.was c.in_ok-end.ensures.steps c.self.invariant in
-    let whole = whole_sum c.squares_between-second.result c.in_ok-start.was c.in_ok-end.ensures.steps c.self.invariant
-    c.squares_between-second.ensures in
+    let whole = whole_sum c.squares_between-second.result c.in_ok-start.was c.in_ok-end.ensures.steps
+    c.self.invariant c.squares_between-second.ensures in
     let made : c.window.result ≡ window_between s a end.place = c.window.ensures
     ∙ ap (λ sum. record { start = a; end = end.place; value = isqrt (sum / (end.place - a)) }) whole
     ∙ window_by_sum s a end.place (omega (arith, order.2)) in

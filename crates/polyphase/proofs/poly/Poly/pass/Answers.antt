@@ -13,7 +13,8 @@ returns-then-self-clause-passed c passed =
     let put = c.put_calm.ensures.value passed in
     let alike = subst (BeginAlike i.latest) put (c.put_calm.ensures.begins passed) in
     let idle = c.self.invariant.idle c.if-self.true in
-    let P : PolyView → Type 0 = λ p. Passes p (poly_view c.put_calm.new.self i.dips i.swells i.interruptions) m in
+    let new = poly_view c.put_calm.new.self i.dips i.swells i.interruptions in
+    let P : PolyView → Type 0 = λ p. Passes p new m in
     let Q : LatestView → Type 0 = λ l. Passes (poly_view i.latest i.dips i.swells i.interruptions)
     (poly_view l i.dips i.swells i.interruptions) m in
     subst P c.self.view_is
