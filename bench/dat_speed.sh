@@ -1,6 +1,7 @@
 #!/bin/sh
 # Times `read_dat` on a dat of 188 MB, three channels and 13.4 million records, against plain Rust that does the same
 # steps, and compares what they read; then its memory, and that of a cfg that says as many samples over an empty dat.
+# `read_dat` is given the bytes of the whole dat at once; `pqa` feeds a dat in pieces, which is not timed here.
 # The program that calls it is built in a copy of this repository. Outside the gate: wants rustc and python3.
 set -e
 home=$(cd "$(dirname "$0")/.." && pwd)

@@ -1,6 +1,6 @@
 #!/bin/sh
 # Times the first build of this commit from nothing, by a plain `rt run` in crates/pqa and by the launcher. Outside the gate:
-# wants a quiet machine, a quarter of an hour and 5 GB in TMPDIR. Words choose the ways: plain, launcher; both where there is none.
+# wants a quiet machine, half an hour and 5 GB in TMPDIR. Words choose the ways: plain, launcher; both where there is none.
 #
 # What rt keeps of other checkouts lies beside the kit, and rt finds its kit by the folder of its own script. So each way gets a
 # kit of its own here, made of links but for the scripts, beside which nothing is kept.
