@@ -5,7 +5,7 @@ use Rattle.std.proofs.lemmas.Bool.Decides.{Decides-int_eq, nat_tests}
 use Rattle.std.proofs.lemmas.List.Elements.{All-head, All-tail, All-weaker}
 use Rattle.std.specs.List.{All, range_with_len}
 use Rattle.comtrade_dat.specs.BinaryRecord.{count_in, number_in, record_at}
-use Rattle.comtrade_dat.specs.Run.{AreGood, HaveCounts, is_numbered_after, judged_bytes, judged_in, judged_run, number_before}
+use Rattle.comtrade_dat.specs.Run.{AreNumbered, HaveCounts, is_numbered_after, judged_bytes, judged_in, judged_run, number_before}
 use Rattle.comtrade_dat.specs.Samples.{first_fault, is_missing, none_missing}
 use Rattle.comtrade_dat.specs.declared.dat_fault.DatFault.{DatFault}
 use Rattle.comtrade_dat.specs.declared.dat_fault.DatFault.TheVariants as fault
@@ -83,18 +83,19 @@ good_on judged from (suc more) each good =
 
 -- good records after good ones
 pub good_records : (size : ℕ) (positions : List ℕ) (start : RunStart) (run : Text) (from end : ℕ) →
-    from ≤ end → AreGood size positions start.before run from end →
+    from ≤ end → AreNumbered size start.before run from end →
+    All (HaveCounts size run from end) positions →
     first_fault (judged_run size positions start run from) ≡ Ok (tt {0}) →
     first_fault (judged_run size positions start run end) ≡ Ok (tt {0})
-good_records size positions start run from end forward are good =
+good_records size positions start run from end forward numbered counted good =
     let judged = judged_in size positions start run in
     let same : from + (end - from) ≡ end = omega (arith, forward) in
     let each : (i : ℕ) → from ≤ i → i < from + (end - from) → judged i ≡ Ok (tt {0}) =
     λ i low high.
     let bytes = record_at size run i in
     judged_good positions (number_before size start.before run i) (start.index + i + 1) bytes
-    (are.numbered i low (omega (arith, high)))
+    (numbered i low (omega (arith, high)))
     (All-weaker (HaveCounts size run from end) (λ position. count_in bytes position ≢ MISSING_COUNT)
-    (λ position have. have i low (omega (arith, high))) positions are.counted) in
+    (λ position have. have i low (omega (arith, high))) positions counted) in
     subst (λ n. first_fault (map judged (range_with_len 0 n)) ≡ Ok (tt {0})) same
     (good_on judged from (end - from) each good)

@@ -1,14 +1,13 @@
 -- What contracts see of a selected channel that is being read: where its counts lie, and its samples so far.
-use Rattle.std.specs.Prelude.{◌≡◌, ◌≢◌, ℕ, ◌+◌, ◌*◌, ◌-◌, ◌^◌, ◌<◌, ◌≤◌, Bool, false, nat_le, List, [], ◌++◌, All, length, map, slice_index_or, ℤ, Result, unsigned_abs}
+use Rattle.std.specs.Prelude.{◌≡◌, ℕ, ◌+◌, ◌*◌, ◌-◌, ◌^◌, ◌<◌, ◌≤◌, Bool, false, nat_le, List, [], ◌++◌, All, length, map, slice_index_or, ℤ, Result, unsigned_abs}
 use Rattle.std.specs.List.{range_with_len}
 use Rattle.comtrade_cfg.specs.Configuration.{Configuration}
 use Rattle.comtrade_cfg.specs.Selecting.{AreWithinLimit, coefficients_at}
 use Rattle.comtrade_cfg.specs.declared.voltage.Coefficients.{Coefficients}
-use Rattle.comtrade_dat.specs.BinaryRecord.{count_in, record_at}
+use Rattle.comtrade_dat.specs.Run.{HaveCounts}
 use Rattle.comtrade_dat.specs.Samples.{sample_at}
 use Rattle.comtrade_dat.specs.declared.dat_fault.DatFault.{DatFault}
 use Rattle.comtrade_dat.specs.declared.dat_fault.DatFault.TheVariants as fault
-use Rattle.comtrade_dat.specs.declared.limits.TheConstants.{MISSING_COUNT}
 use Rattle.pq_words.specs.declared.limits.TheConstants.{MOST_MICROVOLTS}
 use Rattle.pq_words.specs.Magnitude.{IsWithin}
 use Rattle.pq_words.specs.FirstFault.{◌>>=◌, provided}
@@ -25,12 +24,13 @@ pub record IsLayout (size : ℕ) (positions : List ℕ) : Type 0 where
   pub small : size < 2 ^ 16
   pub room : All (λ p. 10 + 2 * p ≤ size) positions
 
--- a channel by its position, its samples so far, and whether there was no memory for one
+-- a channel by its position, its samples so far, and whether it stopped: a record had no count, or there was
+-- no memory
 pub record ChannelRead : Type 0 where
   pub position : ℕ
   pub coefficients : Coefficients
   pub samples : List ℤ
-  pub lacks_memory : Bool
+  pub has_stopped : Bool
 
 -- the positions and the samples of several channels
 abbrev pub all_positions : List ChannelRead → List ℕ
@@ -46,19 +46,24 @@ read_on size dat start end channel = record channel {
       (range_with_len start (end - start));
 }
 
--- what is left of a channel after a thread took these records: it has read on, or there was no memory
+-- a channel took the samples of these records, which all have a count
+pub record HasRead (size : ℕ) (dat : Text) (start end : ℕ) (old new : ChannelRead) : Type 0 where
+  pub value : new ≡ read_on size dat start end old
+  pub counted : HaveCounts size dat start end old.position
+
+-- the same of several channels
+pub record HaveRead (size : ℕ) (dat : Text) (start end : ℕ) (olds news : List ChannelRead) : Type 0 where
+  pub value : news ≡ map (read_on size dat start end) olds
+  pub counted : All (λ (channel : ChannelRead). HaveCounts size dat start end channel.position) news
+
+-- a thread took these records of a channel, or the channel stopped
 abbrev pub HasTaken : ℕ → Text → ℕ → ℕ → ChannelRead → ChannelRead → Type 0
-HasTaken size dat start end old new = new.lacks_memory ≡ false → new ≡ read_on size dat start end old
+HasTaken size dat start end old new = new.has_stopped ≡ false → HasRead size dat start end old new
 
 -- the same of several channels
 abbrev pub HaveTaken : ℕ → Text → ℕ → ℕ → List ChannelRead → List ChannelRead → Type 0
 HaveTaken size dat start end olds news = (i : ℕ) (d : ChannelRead) → i < length olds →
     HasTaken size dat start end (slice_index_or olds i d) (slice_index_or news i d)
-
--- each of the first n records has a count at this position
-abbrev pub HasCounts : ℕ → Text → ℕ → ℕ → Type 0
-HasCounts size dat n position = (index : ℕ) → index < n →
-    count_in (record_at size dat index) position ≢ MISSING_COUNT
 
 -- a channel whose coefficients and samples are within the limits
 pub record IsChannel (c : ChannelRead) : Type 0 where
@@ -71,7 +76,7 @@ unread_with coefficients position = record {
   position = position;
   coefficients = coefficients;
   samples = [];
-  lacks_memory = false;
+  has_stopped = false;
 }
 
 -- the channel at a position of a configuration, before the first record

@@ -1,6 +1,6 @@
 -- The subject: records that are judged and read by themselves, as a dat comes in pieces. A run is bytes of a
 -- dat from the beginning of a record on.
-use Rattle.std.specs.Prelude.{◌≡◌, ◌≢◌, ℕ, ◌+◌, ◌-◌, ◌%◌, ◌^◌, ◌<◌, ◌≤◌, Bool, true, ◌==◌, if◌then◌else◌, List, All, map, find, Option, Some, None, Result}
+use Rattle.std.specs.Prelude.{◌≡◌, ◌≢◌, ℕ, ◌+◌, ◌-◌, ◌%◌, ◌^◌, ◌<◌, ◌≤◌, Bool, true, ◌==◌, if◌then◌else◌, List, map, find, Option, Some, None, Result}
 use Rattle.std.specs.List.{range_with_len}
 use Rattle.comtrade_dat.specs.BinaryRecord.{count_in, number_in, record_at}
 use Rattle.comtrade_dat.specs.Samples.{is_missing, none_missing}
@@ -58,9 +58,3 @@ AreNumbered size before run from end = (index : ℕ) → from ≤ index → inde
 abbrev pub HaveCounts : ℕ → Text → ℕ → ℕ → ℕ → Type 0
 HaveCounts size run from end position = (index : ℕ) → from ≤ index → index < end →
     count_in (record_at size run index) position ≢ MISSING_COUNT
-
--- none of these records is at fault
-pub record AreGood (size : ℕ) (positions : List ℕ) (before : Option ℕ) (run : Text) (from end : ℕ) : Type 0
-  where
-    pub numbered : AreNumbered size before run from end
-    pub counted : All (HaveCounts size run from end) positions

@@ -1,25 +1,29 @@
 // A selected channel that is being read.
-ghost use Rattle.std.specs.Prelude.{◌≡◌, ◌+◌, ◌-◌, ◌*◌, ◌<◌, ◌≤◌, All, IfOk, IsErrOf, OnErr, OnOk, length};
-ghost use Rattle.comtrade_dat.specs.Channel.{HasCounts, HasTaken, read_on, unread_with};
+ghost use Rattle.std.specs.Prelude.{◌≡◌, ◌+◌, ◌-◌, ◌*◌, ◌<◌, ◌≤◌, true, All, OnOk, length};
 ghost use Rattle.comtrade_cfg.specs.Selecting.{AreWithinLimit};
-ghost use Rattle.comtrade_dat.specs.declared.dat_fault.DatFault.TheVariants as fault;
+ghost use Rattle.comtrade_dat.specs.Channel.{HasRead, HasTaken, read_on, unread_with};
+ghost use Rattle.comtrade_dat.specs.Run.{HaveCounts};
 ghost use Rattle.pq_words.specs.declared.limits.TheConstants.{MOST_MICROVOLTS};
 ghost use Rattle.pq_words.specs.Magnitude.{IsWithin};
 
-use crate::dat_fault::DatFault;
 use crate::fields::{count_in, record_at};
+use crate::good_records::have_counts;
 use crate::sample::microvolts;
 use comtrade_cfg::Coefficients;
-use std::alloc::Global;
+use std::alloc::{AllocError, Global};
 use std::marker::Model;
 
-// Where its counts lie, what they stand for, its samples so far, and whether there was no memory for one.
+// How many records are looked at before their samples are taken: so few that they stay near.
+const AT_ONCE: usize = 1024;
+
+// Where its counts lie, what they stand for, its samples so far, and whether it stopped before the end of
+// records.
 #[derive(Drop)]
 pub struct Channel {
     position: usize,
     coefficients: Coefficients,
     samples: Vec<i64>,
-    lacks_memory: bool,
+    has_stopped: bool,
 }
 
 impl Model for Channel {
@@ -31,14 +35,14 @@ impl Model for Channel {
       position = c.position;
       coefficients = c.coefficients;
       samples = c.samples.items;
-      lacks_memory = c.lacks_memory;
+      has_stopped = c.has_stopped;
     } };
 
     ghost invariant = { λ c. IsChannel (record {
       position = c.position;
       coefficients = c.coefficients;
       samples = c.samples.items;
-      lacks_memory = c.lacks_memory;
+      has_stopped = c.has_stopped;
     }) };
 }
 
@@ -52,7 +56,7 @@ impl Channel {
             position,
             coefficients,
             samples: Vec::new(alloc),
-            lacks_memory: false,
+            has_stopped: false,
         }
     }
 
@@ -69,22 +73,44 @@ impl Channel {
         }
     }
 
-    // Takes the samples of the records from an index to another. Apart from its caller its loop has the
-    // registers for itself.
+    // Takes the samples of the records from an index to another. Gives whether it took them all: not where
+    // one has no count, or there is no memory.
+    pub(crate) fn take_records(&mut self, size: usize, dat: &[u8], start: usize, end: usize) -> bool
+        requires forward { start ≤ end }
+        requires whole { size * end ≤ length dat.now }
+        requires room { 10 + 2 * self.old.position ≤ size }
+        ensures { result ≡ true → HasRead size dat.now start end self.old self.new }
+    {
+        let position = self.position();
+        let mut from = start;
+        while from < end {
+            let next = from + AT_ONCE.min(end - from);
+            if !have_counts(size, dat, from, next, position) {
+                return false;
+            }
+            if self.take_counts(size, dat, from, next).is_err() {
+                return false;
+            }
+            from = next;
+        }
+        true
+    }
+
+    // Takes the samples of records that have a count. Apart from its caller its loop has the registers for
+    // itself.
     #[inline(never)]
-    pub(crate) fn take_records(
+    fn take_counts(
         &mut self,
         size: usize,
         dat: &[u8],
         start: usize,
         end: usize,
-    ) -> Result<(), DatFault>
+    ) -> Result<(), AllocError>
         requires forward { start ≤ end }
         requires whole { size * end ≤ length dat.now }
         requires room { 10 + 2 * self.old.position ≤ size }
-        requires counts { HasCounts size dat.now end self.old.position }
-        ensures value { OnOk result (self.new ≡ read_on size dat.now start end self.old) }
-        ensures err { OnErr result (IsErrOf result fault.OutOfMemory) }
+        requires counts { HaveCounts size dat.now start end self.old.position }
+        ensures { OnOk result (self.new ≡ read_on size dat.now start end self.old) }
     {
         let coefficients = self.coefficients;
         let position = self.position;
@@ -95,24 +121,30 @@ impl Channel {
         Ok(())
     }
 
-    // Takes them in a thread, which tells nothing: want of memory is kept.
+    // Takes them in a thread, which tells nothing: it keeps whether it stopped.
     pub(crate) fn keep_records(&mut self, size: usize, dat: &[u8], start: usize, end: usize)
         requires forward { start ≤ end }
         requires whole { size * end ≤ length dat.now }
         requires room { 10 + 2 * self.old.position ≤ size }
-        requires counts { HasCounts size dat.now end self.old.position }
         ensures { HasTaken size dat.now start end self.old self.new }
     {
-        if self.take_records(size, dat, start, end).is_err() {
-            self.lacks_memory = true;
+        if !self.take_records(size, dat, start, end) {
+            self.has_stopped = true;
         }
     }
 
-    // Whether there was no memory for a sample.
-    pub(crate) fn lacks_memory(&self) -> bool
-        ensures { result ≡ self.now.lacks_memory }
+    // Where its counts lie.
+    fn position(&self) -> usize
+        ensures { result ≡ self.now.position }
     {
-        self.lacks_memory
+        self.position
+    }
+
+    // Whether it stopped before the end of records.
+    pub(crate) fn has_stopped(&self) -> bool
+        ensures { result ≡ self.now.has_stopped }
+    {
+        self.has_stopped
     }
 
     pub(crate) fn into_samples(self) -> Vec<i64>

@@ -1,5 +1,5 @@
 // The reader of a dat that comes in pieces.
-ghost use Rattle.std.specs.Prelude.{◌≡◌, ◌+◌, ◌*◌, ◌^◌, ◌<◌, ◌≤◌, ℕ, [], ◌++◌, All, IfOk, IsErrOf, OnErr, length, map};
+ghost use Rattle.std.specs.Prelude.{◌≡◌, ◌+◌, ◌*◌, ◌^◌, ◌<◌, ◌≤◌, ℕ, [], ◌++◌, All, IfOk, IsErrOf, OnErr, OnOk, length, map};
 ghost use Rattle.cfg_fields.specs.declared.limits.TheConstants.{MOST_CHANNELS};
 ghost use Rattle.comtrade_cfg.specs.CfgText.{IsConfiguration};
 ghost use Rattle.comtrade_cfg.specs.Configuration.{cfg_view};
@@ -88,6 +88,7 @@ impl<'c> DatReader<'c> {
     pub fn feed<T: Taking>(&mut self, taking: &T, piece: &[u8]) -> Result<(), OutOfMemory>
         requires ready { T.is_ready taking.now }
         ensures fed { FeedsOn self.old piece.now self.new }
+        ensures ok { OnOk result (¬ HasNoMemory self.new) }
         ensures told { OnErr result (HasNoMemory self.new) }
     {
         let size = record_size(self.cfg);

@@ -11,6 +11,7 @@ ghost use Rattle.pq_words.specs.Magnitude.{IsWithin};
 
 use crate::channel::Channel;
 use crate::dat_fault::DatFault;
+use crate::good_records::are_numbered;
 use crate::judging::judge_records;
 use crate::run_start::{RunStart, start_after};
 use crate::taking::Taking;
@@ -116,11 +117,40 @@ fn read_records<T: Taking>(
     let mut from = 0;
     while from < count {
         let end = from + taking.records_at_once().min(count - from);
-        judge_records(size, positions, start, run, from, end)?;
-        taking.take_records(channels, size, run, from, end)?;
+        read_block(taking, channels, size, positions, start, run, from, end)?;
         from = end;
     }
     Ok(())
+}
+
+// The samples of the records of a run from an index to another, or the fault of the first that is at fault.
+// Those before them are good. Which record is at fault is asked only where not all samples can be taken.
+fn read_block<T: Taking>(
+    taking: &T,
+    channels: &mut [Channel],
+    size: usize,
+    positions: &[u32],
+    start: RunStart,
+    run: &[u8],
+    from: usize,
+    end: usize,
+) -> Result<(), DatFault>
+    requires ready { T.is_ready taking.now }
+    requires forward { from ≤ end }
+    requires whole { size * end ≤ length run.now }
+    requires layout { IsLayout size positions.now }
+    requires few { start.index + end ≤ MOST_SAMPLES }
+    requires paired { all_positions channels.old ≡ positions.now }
+    requires good { first_fault (judged_run size positions.now start run.now from) ≡ Ok (tt {0}) }
+    ensures value { Gives result (first_fault (judged_run size positions.now start run.now end)) }
+    ensures read { OnOk result (channels.new ≡ map (read_on size run.now from end) channels.old) }
+{
+    let are_numbered = are_numbered(size, start.before, run, from, end);
+    if are_numbered && taking.take_records(channels, size, run, from, end) {
+        return Ok(());
+    }
+    judge_records(size, positions, start, run, from, end)?;
+    Err(DatFault::OutOfMemory)
 }
 
 // The samples that the channels have read.

@@ -1,34 +1,21 @@
-// Whether records are good, told without their faults: a pass for their numbers, and one for the counts of
-// each channel.
-ghost use Rattle.std.specs.Prelude.{◌≡◌, ◌≢◌, ◌+◌, ◌*◌, ◌≤◌, true, All, length};
+// Whether records are good, told without their faults: by their numbers, and by the counts of a channel.
+ghost use Rattle.std.specs.Prelude.{◌≡◌, ◌≢◌, ◌+◌, ◌*◌, ◌≤◌, true, length};
 ghost use Rattle.comtrade_dat.specs.BinaryRecord.{count_in};
-ghost use Rattle.comtrade_dat.specs.Channel.{IsLayout};
-ghost use Rattle.comtrade_dat.specs.Run.{AreGood, AreNumbered, HaveCounts, is_numbered_after};
+ghost use Rattle.comtrade_dat.specs.Run.{AreNumbered, HaveCounts, is_numbered_after};
 ghost use Rattle.comtrade_dat.specs.declared.limits.TheConstants.{MISSING_COUNT};
 
 use crate::fields::{count_in, number_in, record_at};
 use crate::limits::MISSING_COUNT;
 use crate::run_start::number_before;
 
-// Whether the records of a run from an index to another have the numbers that follow, and all counts.
-pub(crate) fn are_good(
+// Whether each record's number follows that of the record before it.
+pub(crate) fn are_numbered(
     size: usize,
-    positions: &[u32],
     before: Option<u32>,
     run: &[u8],
     from: usize,
     end: usize,
 ) -> bool
-    requires forward { from ≤ end }
-    requires whole { size * end ≤ length run.now }
-    requires layout { IsLayout size positions.now }
-    ensures { result ≡ true → AreGood size positions.now before run.now from end }
-{
-    are_numbered(size, before, run, from, end) && have_all_counts(size, positions, run, from, end)
-}
-
-// Whether each record's number follows that of the record before it.
-fn are_numbered(size: usize, before: Option<u32>, run: &[u8], from: usize, end: usize) -> bool
     requires forward { from ≤ end }
     requires whole { size * end ≤ length run.now }
     requires fields { 8 ≤ size }
@@ -44,28 +31,8 @@ fn are_numbered(size: usize, before: Option<u32>, run: &[u8], from: usize, end: 
     are
 }
 
-// Whether a number follows that of the record before, where there is one.
-pub(crate) fn is_numbered_after(before: Option<u32>, number: u32) -> bool
-    ensures { result ≡ is_numbered_after before number }
-{
-    match before {
-        Some(before) => number == before.wrapping_add(1),
-        None => true,
-    }
-}
-
-// Whether each record has the counts of all channels at these positions.
-fn have_all_counts(size: usize, positions: &[u32], run: &[u8], from: usize, end: usize) -> bool
-    requires forward { from ≤ end }
-    requires whole { size * end ≤ length run.now }
-    requires layout { IsLayout size positions.now }
-    ensures { result ≡ true → All (HaveCounts size run.now from end) positions.now }
-{
-    positions.iter().all(|position| have_counts(size, run, from, end, *position as usize))
-}
-
 // Whether each record has the count of the channel at a position.
-fn have_counts(size: usize, run: &[u8], from: usize, end: usize, position: usize) -> bool
+pub(crate) fn have_counts(size: usize, run: &[u8], from: usize, end: usize, position: usize) -> bool
     requires forward { from ≤ end }
     requires whole { size * end ≤ length run.now }
     requires room { 10 + 2 * position ≤ size }
@@ -76,6 +43,16 @@ fn have_counts(size: usize, run: &[u8], from: usize, end: usize, position: usize
         have &= has_count(record_at(size, run, index), position);
     }
     have
+}
+
+// Whether a number follows that of the record before, where there is one.
+pub(crate) fn is_numbered_after(before: Option<u32>, number: u32) -> bool
+    ensures { result ≡ is_numbered_after before number }
+{
+    match before {
+        Some(before) => number == before.wrapping_add(1),
+        None => true,
+    }
 }
 
 // Whether a record has the count of the channel at a position.

@@ -7,62 +7,12 @@ ghost use Rattle.pq_words.specs.declared.limits.TheConstants.{MOST_SAMPLES};
 
 use crate::dat_fault::DatFault;
 use crate::fields::{count_in, number_in, record_at};
-use crate::good_records::{are_good, is_numbered_after};
+use crate::good_records::is_numbered_after;
 use crate::limits::MISSING_COUNT;
 use crate::run_start::{RunStart, number_before};
 
-// How many records are looked at at once: so few that they stay near.
-const AT_ONCE: usize = 1024;
-
 // The records of a run from an index to another, which is not included, in order. Those before them are good.
 pub(crate) fn judge_records(
-    size: usize,
-    positions: &[u32],
-    start: RunStart,
-    run: &[u8],
-    from: usize,
-    end: usize,
-) -> Result<(), DatFault>
-    requires forward { from ≤ end }
-    requires whole { size * end ≤ length run.now }
-    requires few { start.index + end ≤ MOST_SAMPLES }
-    requires layout { IsLayout size positions.now }
-    requires good { first_fault (judged_run size positions.now start run.now from) ≡ Ok (tt {0}) }
-    ensures { result ≡ first_fault (judged_run size positions.now start run.now end) }
-{
-    let mut index = from;
-    while index < end {
-        let next = index + AT_ONCE.min(end - index);
-        judge_block(size, positions, start, run, index, next)?;
-        index = next;
-    }
-    Ok(())
-}
-
-// The same of a few records. Most are good as a whole, which is told sooner than the judgement of each.
-fn judge_block(
-    size: usize,
-    positions: &[u32],
-    start: RunStart,
-    run: &[u8],
-    from: usize,
-    end: usize,
-) -> Result<(), DatFault>
-    requires forward { from ≤ end }
-    requires whole { size * end ≤ length run.now }
-    requires few { start.index + end ≤ MOST_SAMPLES }
-    requires layout { IsLayout size positions.now }
-    requires good { first_fault (judged_run size positions.now start run.now from) ≡ Ok (tt {0}) }
-    ensures { result ≡ first_fault (judged_run size positions.now start run.now end) }
-{
-    if are_good(size, positions, start.before, run, from, end) {
-        return Ok(());
-    }
-    judge_each(size, positions, start, run, from, end)
-}
-
-// The same, record by record.
-fn judge_each(
     size: usize,
     positions: &[u32],
     start: RunStart,

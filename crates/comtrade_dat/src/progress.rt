@@ -1,5 +1,5 @@
 // How far a dat is read that comes in pieces.
-ghost use Rattle.std.specs.Prelude.{◌≡◌, ◌+◌, ◌^◌, ◌<◌, ◌≤◌, [], IsErrOf, OnErr, OnOk, Some, length};
+ghost use Rattle.std.specs.Prelude.{◌≡◌, ◌≢◌, ◌+◌, ◌^◌, ◌<◌, ◌≤◌, [], IsErrOf, OnErr, OnOk, Some, length};
 ghost use Rattle.comtrade_dat.specs.Channel.{IsLayout, judged_count};
 ghost use Rattle.comtrade_dat.specs.Progress.{EndsAll, GoesOnWith, IsFedOn, IsGoing, IsInShape, WasFed};
 ghost use Rattle.comtrade_dat.specs.declared.dat_fault.DatFault.TheVariants as fault;
@@ -34,6 +34,7 @@ impl Progress {
         requires few { n ≤ MOST_SAMPLES }
         requires fed { WasFed size positions.now n self.old }
         ensures fed { IsFedOn size positions.now n self.old piece.now self.new }
+        ensures ok { OnOk result (self.new.fault ≢ Some fault.OutOfMemory) }
         ensures told { OnErr result (self.new.fault ≡ Some fault.OutOfMemory) }
     {
         if let Some(fault) = self.fault {
@@ -177,7 +178,8 @@ impl Progress {
 
 // A fault is kept until the end, but for want of memory, which is told at once.
 fn want_of_memory(found: DatFault) -> Result<(), OutOfMemory>
-    ensures { OnErr result (found ≡ fault.OutOfMemory) }
+    ensures ok { OnOk result (found ≢ fault.OutOfMemory) }
+    ensures err { OnErr result (found ≡ fault.OutOfMemory) }
 {
     match found {
         DatFault::OutOfMemory => Err(OutOfMemory),

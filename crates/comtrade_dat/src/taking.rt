@@ -1,24 +1,23 @@
-// How the samples of good records are taken of several channels.
-ghost use Rattle.std.specs.Prelude.{◌≡◌, ◌+◌, ◌*◌, ◌<◌, ◌≤◌, false, All, IsErrOf, OnErr, OnOk, length, map, ⊤};
+// How the samples of records are taken of several channels.
+ghost use Rattle.std.specs.Prelude.{◌≡◌, ◌+◌, ◌*◌, ◌<◌, ◌≤◌, false, true, All, length, ⊤};
 ghost use Rattle.std.specs.Thread.{IsSync};
-ghost use Rattle.comtrade_dat.specs.Channel.{HasCounts, HaveTaken, read_on};
-ghost use Rattle.comtrade_dat.specs.declared.dat_fault.DatFault.TheVariants as fault;
+ghost use Rattle.comtrade_dat.specs.Channel.{HaveRead, HaveTaken};
 
 use crate::channel::Channel;
-use crate::dat_fault::DatFault;
 use std::thread;
 use std::thread::Threads;
 
-/// How the samples of good records are taken: by the caller alone, or by several threads.
+/// How the samples of records are taken: by the caller alone, or by several threads.
 pub trait Taking {
     /// It may be asked for samples.
     ghost is_ready: { Self → Type 0 };
 
-    /// How many records are judged before their samples are taken.
+    /// How many records are taken at once.
     fn records_at_once(&self) -> usize
         ensures { 0 < result };
 
-    /// Takes the samples of the records from an index to another, which are good.
+    /// Takes the samples of the records from an index to another. Gives whether it took them all: not where a
+    /// count is missing, or there is no memory.
     fn take_records(
         &self,
         channels: &mut [Channel],
@@ -26,14 +25,12 @@ pub trait Taking {
         run: &[u8],
         start: usize,
         end: usize,
-    ) -> Result<(), DatFault>
+    ) -> bool
         requires ready { is_ready self.now }
         requires forward { start ≤ end }
         requires whole { size * end ≤ length run.now }
         requires room { All (λ channel. 10 + 2 * channel.position ≤ size) channels.old }
-        requires counts { All (λ channel. HasCounts size run.now end channel.position) channels.old }
-        ensures value { OnOk result (channels.new ≡ map (read_on size run.now start end) channels.old) }
-        ensures err { OnErr result (IsErrOf result fault.OutOfMemory) };
+        ensures { result ≡ true → HaveRead size run.now start end channels.old channels.new };
 }
 
 /// The caller's thread takes the samples of one channel after another.
@@ -55,11 +52,13 @@ impl Taking for OneThread {
         run: &[u8],
         start: usize,
         end: usize,
-    ) -> Result<(), DatFault> {
+    ) -> bool {
         for channel in channels.iter_mut() {
-            channel.take_records(size, run, start, end)?;
+            if !channel.take_records(size, run, start, end) {
+                return false;
+            }
         }
-        Ok(())
+        true
     }
 }
 
@@ -87,23 +86,20 @@ impl<'a, R: Threads + Sync> Taking for SideBySide<'a, R> {
         run: &[u8],
         start: usize,
         end: usize,
-    ) -> Result<(), DatFault> {
+    ) -> bool {
         keep_records(self.rt, channels, size, run, start, end);
-        if lack_memory(channels) {
-            return Err(DatFault::OutOfMemory);
-        }
-        Ok(())
+        !have_stopped(channels)
     }
 }
 
-// Whether there was no memory for a sample of one of the channels.
-fn lack_memory(channels: &[Channel]) -> bool
-    ensures { result ≡ false → All (λ channel. channel.lacks_memory ≡ false) channels.now }
+// Whether one of the channels stopped.
+fn have_stopped(channels: &[Channel]) -> bool
+    ensures { result ≡ false → All (λ channel. channel.has_stopped ≡ false) channels.now }
 {
-    channels.iter().any(|channel| channel.lacks_memory())
+    channels.iter().any(|channel| channel.has_stopped())
 }
 
-// Takes the samples in threads. Want of memory is kept by the channels.
+// Takes the samples in threads. The channels keep whether they stopped.
 fn keep_records<R: Threads + Sync>(
     rt: &R,
     channels: &mut [Channel],
@@ -115,7 +111,6 @@ fn keep_records<R: Threads + Sync>(
     requires forward { start ≤ end }
     requires whole { size * end ≤ length run.now }
     requires room { All (λ channel. 10 + 2 * channel.position ≤ size) channels.old }
-    requires counts { All (λ channel. HasCounts size run.now end channel.position) channels.old }
     ensures { HaveTaken size run.now start end channels.old channels.new }
 {
     thread::for_each_mut(

@@ -3,6 +3,8 @@
 use Rattle.std.specs.Prelude.{◌≡◌, ℕ, ◌≤◌, ◌⊎◌, Bool, true, false, List, [], length, take, Option, Some, None}
 use Rattle.interval_ledger.specs.declared.ledger.Ledger.{Ledger}
 use Rattle.interval_ledger.specs.declared.subject.Subject.{Subject}
+use Rattle.lane_workers.specs.declared.printer.PrintFault.{PrintFault}
+use Rattle.lane_workers.specs.declared.printer.PrintFault.TheVariants as fault
 use Rattle.lane_workers.specs.declared.printer.Printer as printer
 use Rattle.lane_workers.specs.declared.ran.Ran.{Ran}
 use Rattle.lane_workers.specs.declared.ran.Ran.TheVariants as ran
@@ -36,6 +38,11 @@ module _ {g : Ghosts Ledger Subject} where
   HasHalted s = (reader_of s.pass).wrote_stop ≡ true
 
 -- ---- how a run ends
+
+-- how it ends where the printer broke off
+abbrev pub run_of : PrintFault → Ran
+run_of fault.Failed = ran.Failed
+run_of fault.OutOfMemory = ran.OutOfMemory
 
 -- the printer failed
 abbrev pub is_failed_run : Ran → Bool

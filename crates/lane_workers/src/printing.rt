@@ -1,18 +1,25 @@
 // The caller's part: it prints each item as its session is given it.
-ghost use Rattle.std.specs.Prelude.{◌≡◌};
-ghost use Rattle.lane_workers.specs.Running.{CanPrint, HasRun, IsPrinting, TurnGives, recording_of};
+ghost use Rattle.std.specs.Prelude.{◌≡◌, ◌≤◌, All, OnErr, OnOk, Err};
+ghost use Rattle.lane_workers.specs.Printing.{BreaksAmong, ExtendsBy, is_failed};
+ghost use Rattle.lane_workers.specs.Running.{CanPrint, HasRun, IsPrinting, TurnGives, recording_of, run_of};
+ghost use Rattle.pq_base.specs.Causes.{CountsOnce, Rose};
 ghost use Rattle.pq_base.specs.Recorded.{IsRecording};
+ghost use Rattle.pq_items.specs.ItemRange.{IsItemInRange};
 ghost use Rattle.progress_words.specs.PassView.{after_stop};
 ghost use Rattle.query_session.specs.Session.{IsIdle, IsSessionOf, view_of};
 
 use crate::printer::{PrintFault, Printer};
 use crate::ran::Ran;
+use pq_items::Item;
 use query_session::{Chain, Next, Session};
+use std::alloc::Global;
 use std::sync::Wait;
+use std::thread;
 
 // Prints all that the session is given.
 pub(crate) fn print_all<R: Wait, P: Printer>(
     rt: &R,
+    alloc: Global,
     chain: &Chain,
     session: &mut Session,
     printer: &mut P,
@@ -21,19 +28,21 @@ pub(crate) fn print_all<R: Wait, P: Printer>(
     ensures mine { IsSessionOf chain.now session.new }
     ensures runs { HasRun P.Printer session.old session.new printer.old printer.new result }
 {
+    let mut items = Vec::new(alloc);
     for _ in rt.forever() {
-        if let Some(ran) = print_next(rt, chain, session, printer) {
+        if let Some(ran) = print_next(chain, session, &mut items, printer) {
             return ran;
         }
     }
     unreachable!()
 }
 
-// Prints one item more, or says how the run ends.
-fn print_next<R: Wait, P: Printer>(
-    rt: &R,
+// Prints the items that the session is given next, or says how the run ends. The list holds them for that
+// time.
+fn print_next<P: Printer>(
     chain: &Chain,
     session: &mut Session,
+    items: &mut Vec<Item>,
     printer: &mut P,
 ) -> Option<Ran>
     requires mine { IsSessionOf chain.now session.old }
@@ -42,15 +51,54 @@ fn print_next<R: Wait, P: Printer>(
     ensures mine { IsSessionOf chain.now session.new }
     ensures gives { TurnGives P.Printer session.old session.new printer.old printer.new result }
 {
-    match session.next_wait(rt, chain) {
+    let next = session.next_several(chain, items);
+    if let Err(fault) = print_each(items.as_slice(), printer) {
+        return Some(broken_off(chain, session, fault));
+    }
+    match next {
         Next::Item(item) => match printer.print(&item) {
             Ok(()) => None,
-            Err(PrintFault::Failed) => Some(halted(chain, session, Ran::Failed)),
-            Err(PrintFault::OutOfMemory) => Some(halted(chain, session, Ran::OutOfMemory)),
+            Err(fault) => Some(broken_off(chain, session, fault)),
         },
         Next::End => Some(Ran::All),
         Next::OutOfMemory => Some(halted(chain, session, Ran::OutOfMemory)),
-        _ => unreachable!(),
+        Next::Halted => unreachable!(),
+        _ => {
+            thread::yield_now();
+            None
+        }
+    }
+}
+
+// Prints items one after another, up to the first that isn't printed.
+fn print_each<P: Printer>(items: &[Item], printer: &mut P) -> Result<(), PrintFault>
+    requires { All IsItemInRange items.now }
+    ensures made { P.made printer.new ≡ P.made printer.old }
+    ensures count { P.count printer.old ≤ P.count printer.new }
+    ensures printed { OnOk result (ExtendsBy (P.printed printer.old) items.now (P.printed printer.new)) }
+    ensures broke { OnErr result (BreaksAmong (P.printed printer.old) items.now (P.broke printer.new)) }
+    ensures failed { result ≡ Err PrintFault.Failed → Rose (P.count printer.old) (P.count printer.new) }
+    ensures counted { CountsOnce P.counts_each (P.count printer.old) (P.count printer.new)
+        (is_failed result) }
+{
+    for item in items {
+        printer.print(item)?;
+    }
+    Ok(())
+}
+
+// Halts the chain, where the printer broke off.
+fn broken_off(chain: &Chain, session: &mut Session, fault: PrintFault) -> Ran
+    requires mine { IsSessionOf chain.now session.old }
+    requires idle { IsIdle session.old }
+    ensures mine { IsSessionOf chain.now session.new }
+    ensures idle { IsIdle session.new }
+    ensures view { view_of session.new ≡ after_stop (view_of session.old) }
+    ensures value { result ≡ run_of fault }
+{
+    match fault {
+        PrintFault::Failed => halted(chain, session, Ran::Failed),
+        PrintFault::OutOfMemory => halted(chain, session, Ran::OutOfMemory),
     }
 }
 

@@ -43,6 +43,7 @@ pub fn run_lanes<'r, R: Threads + Wait + Sync, G: Gate + Sync, P: Printer>(
     };
     let caller = Caller {
         rt,
+        alloc,
         chain,
         session,
         printer,
@@ -57,6 +58,7 @@ pub fn run_lanes<'r, R: Threads + Wait + Sync, G: Gate + Sync, P: Printer>(
 #[derive(Drop)]
 struct Caller<'a, 's, 'p, R: Wait, P: Printer> {
     rt: &'a R,
+    alloc: Global,
     chain: &'a Chain,
     session: &'s mut Session,
     printer: &'p mut P,
@@ -74,11 +76,12 @@ impl<'a, 's, 'p, R: Wait, P: Printer> Task for Caller<'a, 's, 'p, R, P> {
     fn run(self) -> (Ran, &'s mut Session, &'p mut P) {
         let Caller {
             rt,
+            alloc,
             chain,
             session,
             printer,
         } = self;
-        let ran = print_all(rt, chain, session, printer);
+        let ran = print_all(rt, alloc, chain, session, printer);
         (ran, session, printer)
     }
 }

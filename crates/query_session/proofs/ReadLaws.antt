@@ -1,13 +1,16 @@
 -- What is read of a ledger is of the result.
-use Rattle.std.proofs.Common.{◌≡◌, ℕ, ◌<◌, ◌≤◌, Bool, true, false, length, slice_get, Option, Some, None, option_and_then, refl, sym, ◌∙◌, arith}
+use Rattle.std.proofs.Common.{◌≡◌, ℕ, ◌+◌, ◌<◌, ◌≤◌, ◌⊎◌, inl, inr, Bool, true, false, List, [], ◌∷◌, ◌++◌, get_or, length, slice_get, Option, Some, None, option_and_then, refl, ap, sym, ◌∙◌, arith}
 use Rattle.std.specs.Bool.{then_some}
 use Rattle.std.specs.Option.{option_map_or}
-use Rattle.std.proofs.lemmas.Option.{slice_get_within}
+use Rattle.std.proofs.lemmas.Bool.{cases_lt}
+use Rattle.std.proofs.lemmas.List.{length-append}
+use Rattle.std.proofs.lemmas.Option.{slice_get-get_or, slice_get_within}
+use Rattle.event_detect.proofs.ExtentLaws.{get_last, get_left}
 use Rattle.chain_core.proofs.CutLaws.{cut_item, ends_by, item_by, released_stands}
 use Rattle.chain_core.proofs.OrderedItems.{ends_in_order}
 use Rattle.event_detect.specs.declared.limits.Limits.{Limits}
 use Rattle.interval_ledger.specs.declared.ledger.Ledger.{Ledger}
-use Rattle.interval_ledger.specs.Ledger.{KeepsCounts, mark_of, released_of}
+use Rattle.interval_ledger.specs.Ledger.{KeepsCounts, mark_of, released_of, view_of}
 use Rattle.pq_base.specs.Recorded.{Recorded, sample_count}
 use Rattle.pq_items.specs.declared.item.Item.{Item as ResultItem}
 use Rattle.pq_items.specs.ItemTable.{end_of}
@@ -15,7 +18,7 @@ use Rattle.pq_sequence.specs.SequentialResult.{cut, end_at, sequential}
 use Rattle.query_session.specs.declared.answer.Next.{Next}
 use Rattle.query_session.specs.declared.answer.Next.TheVariants.{Item, Withheld, End, OutOfMemory, Busy, Halted}
 use Rattle.query_session.specs.Bounds.{HasBounds}
-use Rattle.query_session.specs.Reading.{Answers, cursor_after, result_in}
+use Rattle.query_session.specs.Reading.{Answers, AreNext, cursor_after, result_in}
 use Rattle.query_session.specs.Session.{IsSettled}
 use Rattle.query_session.proofs.ListLaws.{none_at}
 
@@ -87,3 +90,41 @@ settled End p q = tt
 settled OutOfMemory p q = tt
 settled (Busy a) p q = q a refl
 settled Halted p q = tt
+
+-- ---- several items
+
+-- none is next to nothing
+pub none_next : (all : List ResultItem) (k : ℕ) → AreNext all k []
+none_next all k i x e = absurd (let bad : ⊥ = cc in bad)
+
+-- one item more
+pub one_more_next : (all items : List ResultItem) (k : ℕ) (x : ResultItem) → AreNext all k items →
+    slice_get all (k + length items) ≡ Some x → AreNext all k (items ++ x ∷ [])
+one_more_next all items k x next here i y e = at (cases_lt i (length items))
+  where
+    at : (i < length items) ⊎ (length items ≤ i) → slice_get all (k + i) ≡ Some y
+    at (inl below) = next i y (sym (get_left items (x ∷ []) i below) ∙ e)
+    at (inr beyond) =
+        let within = slice_get_within (items ++ x ∷ []) i y e in
+        let long = length-append items (x ∷ []) in
+        let same : i ≡ length items = omega (arith, beyond, within, long) in
+        let last : Some y ≡ Some x =
+        sym e ∙ (ap (slice_get (items ++ x ∷ [])) same ∙ get_last items x) in
+        ap (λ j. slice_get all (k + j)) same ∙ (here ∙ sym last)
+
+-- released items that are next are next in the result
+pub next_in_result : (u : Ledger) (k : ℕ) (items : List ResultItem) → AreNext (released_of u) k items →
+    AreNext (result_in u) k items
+next_in_result u k items next i x e =
+    given_item (view_of u).recording (view_of u).limits (mark_of u) (k + i) x (next i x e)
+
+-- items that are next end within all
+pub next_within : (all items : List ResultItem) (k : ℕ) → k ≤ length all → AreNext all k items →
+    k + length items ≤ length all
+next_within all [] k l next = omega (arith, l)
+next_within all (x ∷ rest) k l next =
+    let n = length rest in
+    let inside : n < length (x ∷ rest) = omega arith in
+    let last = get_or (x ∷ rest) n x in
+    let there = next n last (slice_get-get_or (x ∷ rest) n x inside) in
+    let within = slice_get_within all (k + n) last there in omega (arith, within)

@@ -38,3 +38,8 @@ Answers old new lane word k _ = ⊥
 abbrev pub cursor_after : ℕ → Next → ℕ
 cursor_after k (Item x) = k + 1
 cursor_after k _ = k
+
+-- these items are those of all from an index on, as many as they are
+abbrev pub AreNext : List ResultItem → ℕ → List ResultItem → Type 0
+AreNext all k items =
+    (i : ℕ) (x : ResultItem) → slice_get items i ≡ Some x → slice_get all (k + i) ≡ Some x

@@ -23,7 +23,7 @@ use Rattle.query_session.specs.declared.chain.ChainOf.{ChainOf}
 use Rattle.query_session.specs.declared.session.SessionOf.{SessionOf}
 use Rattle.query_session.specs.declared.stage.Stage.TheVariants as stage
 use Rattle.query_session.specs.Least.{IsLeast}
-use Rattle.query_session.specs.Reading.{Answers, cursor_after}
+use Rattle.query_session.specs.Reading.{Answers, AreNext, cursor_after}
 
 -- ---- what a call does to what a pass knows
 
@@ -97,6 +97,10 @@ IsSettled (next.Withheld lane word) = ⊥
 IsSettled (next.Busy word) = ⊥
 IsSettled _ = Unit {0}
 
+-- the result that a pass knows the name of
+abbrev pub result_by : View → List ResultItem
+result_by v = sequential v.name.recording v.name.limits
+
 -- ---- the calls
 
 module _ {g : Ghosts Ledger Subject} where
@@ -163,22 +167,41 @@ module _ {g : Ghosts Ledger Subject} where
     pub cursor : new.cursor ≡ cursor_after old.cursor result
     pub ended : result ≡ next.End → AreWords (reader_of new.pass) (samples_of old)
 
-  -- what a session is given next: the item at the cursor; withheld, by the least word of this call's loads,
-  -- which lies before that item's end; the end, where each load of this call gave that of the end, and every
-  -- item was given; busy, with the word that this call's try found; halted, as this call's load found
+  -- what a session that knew this is given next, where k items were given before: the item at k; withheld, by
+  -- the least word of this call's loads, which lies before that item's end; the end, where each load of this
+  -- call gave that of the end, and every item was given; busy, with the word that this call's try found;
+  -- halted, as this call's load found
+  abbrev pub AnswersAt : View → ℕ → SessionOf Ledger g → Next → Type 0
+  AnswersAt v k new (next.Item x) =
+      TriedTurn 0 v (view_of new) × (slice_get (result_by v) k ≡ Some x)
+  AnswersAt v k new (next.Withheld lane word) =
+      TriedTurn 0 v (view_of new) × IsLeastRead (reader_of new.pass) lane word
+      × (word < end_at (result_by v) (sample_count v.name.recording) k)
+  AnswersAt v k new next.End =
+      TriedTurn 0 v (view_of new) × AreWords (reader_of new.pass) (sample_count v.name.recording)
+      × (k ≡ length (result_by v))
+  AnswersAt v k new next.OutOfMemory = TriedTurn 0 v (view_of new)
+  AnswersAt v k new (next.Busy word) = TriedTurn word v (view_of new) × (word ≢ 0)
+  AnswersAt v k new next.Halted = FoundStop v (view_of new)
+
+  -- the same at the cursor
   abbrev pub NextAnswers : SessionOf Ledger g → SessionOf Ledger g → Next → Type 0
-  NextAnswers old new (next.Item x) =
-      TriedTurn 0 (view_of old) (view_of new) × (slice_get (result_of old) old.cursor ≡ Some x)
-  NextAnswers old new (next.Withheld lane word) =
-      TriedTurn 0 (view_of old) (view_of new) × IsLeastRead (reader_of new.pass) lane word
-      × (word < end_of old)
-  NextAnswers old new next.End =
-      TriedTurn 0 (view_of old) (view_of new) × AreWords (reader_of new.pass) (samples_of old)
-      × (old.cursor ≡ length (result_of old))
-  NextAnswers old new next.OutOfMemory = TriedTurn 0 (view_of old) (view_of new)
-  NextAnswers old new (next.Busy word) =
-      TriedTurn word (view_of old) (view_of new) × (word ≢ 0)
-  NextAnswers old new next.Halted = FoundStop (view_of old) (view_of new)
+  NextAnswers old new result = AnswersAt (view_of old) old.cursor new result
+
+  -- items that were released before are taken at once, and the cursor is behind them; nothing else is
+  -- different
+  pub record TakesReleased (old new : SessionOf Ledger g) (items : List ResultItem) : Type 0 where
+    pub pass : new.pass ≡ old.pass
+    pub stage : new.stage ≡ old.stage
+    pub next : AreNext (result_of old) old.cursor items
+    pub cursor : new.cursor ≡ old.cursor + length items
+
+  -- several at once: items, and then the answer at the cursor behind them
+  pub record GivesSeveral (old new : SessionOf Ledger g) (items : List ResultItem) (result : Next) : Type 0
+    where
+      pub next : AreNext (result_of old) old.cursor items
+      pub answers : AnswersAt (view_of old) (old.cursor + length items) new result
+      pub cursor : new.cursor ≡ cursor_after (old.cursor + length items) result
 
   -- where this call loaded 0 from the stop word, took the turn, and loaded words that all are at least the
   -- end of the item at the cursor, the session is served

@@ -1,16 +1,17 @@
 // A session looks, takes the turn and reads.
-ghost use Rattle.std.specs.Prelude.{◌≡◌};
+ghost use Rattle.std.specs.Prelude.{◌≡◌, []};
 ghost use Rattle.query_session.specs.Reading.{cursor_after};
-ghost use Rattle.query_session.specs.Session.{Grabs, IsComplete, IsHolding, IsIdle, IsLooked};
-ghost use Rattle.query_session.specs.Session.{IsSessionOf, Looks, NextAnswers, ReadsOnce};
+ghost use Rattle.query_session.specs.Session.{GivesSeveral, Grabs, IsComplete, IsHolding, IsIdle, IsLooked};
+ghost use Rattle.query_session.specs.Session.{IsSessionOf, Looks, NextAnswers, ReadsOnce, TakesReleased};
 
 use crate::answer::{Grab, Look, Next};
 use crate::chain::Chain;
 use crate::loading::load_all;
-use crate::reading::{move_on, read_ledger};
+use crate::reading::{gather, move_on, read_ledger};
 use crate::session::SessionOf;
 use crate::stage::Stage;
 use interval_ledger::Ledger;
+use pq_items::Item;
 use progress_words::Take;
 use std::mem;
 
@@ -32,6 +33,27 @@ impl SessionOf<Ledger> {
         match self.grab(chain) {
             Grab::Busy { word } => return Next::Busy { word },
             Grab::Held => {}
+        }
+        self.read(chain)
+    }
+
+    /// Looks, tries the turn, takes the items that are released already, some at most, into the list, and
+    /// reads. The list has nothing else.
+    pub fn next_several(&mut self, chain: &Chain, items: &mut Vec<Item>) -> Next
+        requires mine { IsSessionOf chain.now self.old }
+        requires idle { IsIdle self.old }
+        ensures mine { IsSessionOf chain.now self.new }
+        ensures idle { IsIdle self.new }
+        ensures gives { GivesSeveral self.old self.new items.new.items result }
+    {
+        items.clear();
+        match self.look(chain) {
+            Look::Halted => return Next::Halted,
+            Look::Seen { lane: _, word: _ } => {}
+        }
+        match self.grab(chain) {
+            Grab::Busy { word } => return Next::Busy { word },
+            Grab::Held => self.take_released(items),
         }
         self.read(chain)
     }
@@ -71,6 +93,18 @@ impl SessionOf<Ledger> {
                 Grab::Held
             }
         }
+    }
+
+    // Takes the items at the cursor that are released already, some at most.
+    fn take_released(&mut self, items: &mut Vec<Item>)
+        requires holding { IsHolding self.old }
+        requires none { items.old.items ≡ [] }
+        ensures { TakesReleased self.old self.new items.new.items }
+    {
+        let Stage::Holding { ledger, .. } = &self.stage else {
+            unreachable!()
+        };
+        self.cursor = gather(ledger, self.cursor, items);
     }
 
     /// Advances the ledger to the word seen, reads the item at the cursor and gives the ledger back.

@@ -1,8 +1,8 @@
 // A ledger is advanced and read.
-ghost use Rattle.std.specs.Prelude.{◌≡◌, ◌+◌, ◌<◌, ◌≤◌, ◌^◌, length, slice_get, IfSome, OnOk, OnErr};
+ghost use Rattle.std.specs.Prelude.{◌≡◌, ◌+◌, ◌<◌, ◌≤◌, ◌^◌, [], length, slice_get, IfSome, OnOk, OnErr};
 ghost use Rattle.interval_ledger.specs.Ledger.{IsReached, KeepsCounts, mark_of, released_of, view_of};
 ghost use Rattle.query_session.specs.Bounds.{HasBounds};
-ghost use Rattle.query_session.specs.Reading.{Answers, IsAdvanced, cursor_after, result_in, samples_in};
+ghost use Rattle.query_session.specs.Reading.{Answers, AreNext, IsAdvanced, cursor_after, result_in, samples_in};
 
 use crate::answer::Next;
 use interval_ledger::{Ledger, Steps};
@@ -10,6 +10,9 @@ use pq_items::Item;
 use std::alloc::AllocError;
 use std::marker::Brand;
 use std::sync::ledger::{Blank, Ledger as Tally};
+
+// How many released items a session takes at most beside the one that it reads.
+const AT_ONCE: usize = 64;
 
 // Advances the ledger to the word, and reads the item at the cursor.
 pub(crate) fn read_ledger(
@@ -84,4 +87,24 @@ fn advance_with<L: Tally>(ledger: &mut Ledger, word: u64, blank: Blank) -> Resul
 {
     let mut steps: Steps<L> = Steps::of(blank);
     ledger.advance(word, &mut steps)
+}
+
+// Adds the released items from an index on, some at most. Gives the index after them.
+pub(crate) fn gather(ledger: &Ledger, from: usize, items: &mut Vec<Item>) -> usize
+    requires none { items.old.items ≡ [] }
+    ensures next { AreNext (released_of ledger.now) from items.new.items }
+    ensures after { result ≡ from + length items.new.items }
+{
+    let end = ledger.released().min(from.saturating_add(AT_ONCE));
+    let mut index = from;
+    while index < end {
+        let Some(item) = ledger.item(index) else {
+            return index;
+        };
+        if items.push(item).is_err() {
+            return index;
+        }
+        index += 1;
+    }
+    index
 }

@@ -1,9 +1,8 @@
-use Rattle.std.proofs.Common.{◌≡◌, ◌∙◌, ℕ, ◌+◌, ◌*◌, ◌≤◌, List, map, refl, sym, ap, arith, rules, Ok, Err}
-use Rattle.comtrade_dat.proofs.ChannelLemmas.{all_read_further, counts_of_good, none_read, of_channels, positions_stay}
+use Rattle.std.proofs.Common.{◌∙◌, ◌+◌, ◌≤◌, map, refl, sym, ap, arith, rules, inl, inr}
+use Rattle.comtrade_dat.proofs.ChannelLemmas.{all_read_further, none_read, positions_stay}
 use Rattle.comtrade_dat.proofs.JudgingLemmas.{fault_among}
-use Rattle.comtrade_dat.specs.Channel.{ChannelRead, HasCounts, read_on}
-use Rattle.comtrade_dat.specs.Run.{judged_in, judged_run}
-use Rattle.comtrade_dat.specs.Samples.{first_fault}
+use Rattle.comtrade_dat.specs.Channel.{ChannelRead, read_on}
+use Rattle.comtrade_dat.specs.Run.{judged_in}
 use Rattle.comtrade_dat.proofs.decoded.read_records.Goals as goal
 
 pub loop-from-init : goal.loop-from-init
@@ -14,40 +13,22 @@ loop-from-init g c = record {
 }
 
 -- a record of this block is at fault
-pub returns-in_err-judge_records-clause-value : goal.returns-in_err-judge_records-clause-value
-returns-in_err-judge_records-clause-value g c =
+pub returns-in_err-read_block-clause-value : goal.returns-in_err-read_block-clause-value
+returns-in_err-read_block-clause-value g c =
     let end = c.loop-from.from + c.min.result in
-    let e = c.in_err-judge_records.field-0.0 in
+    let e = c.in_err-read_block.field-0.0 in
     let judged = judged_in c.args.size c.args.positions.now c.args.start c.args.run.now in
-    let found : first_fault (judged_run c.args.size c.args.positions.now c.args.start c.args.run.now end)
-    ≡ Err e = sym c.judge_records.ensures ∙ c.in_err-judge_records.was in
     let below : end ≤ c.args.count = omega arith in
-    let all = fault_among judged e end c.args.count below found in
-    rw all (search rules)
+    elim c.in_err-read_block.ensures.value [
+      | inl short ↦ search (rules, short)
+      | inr found ↦ let all = fault_among judged e end c.args.count below found in search (rules, all)
+    ]
 
 -- the channels are those of the positions
-pub take_records-requires-clause-room : goal.take_records-requires-clause-room
-take_records-requires-clause-room g c =
-    let at : List ChannelRead → List ℕ = map (λ (channel : ChannelRead). channel.position) in
-    let same : at c.loop-from.channels ≡ c.args.positions.now = ap at c.loop-from.invariant.read
+pub read_block-requires-clause-paired : goal.read_block-requires-clause-paired
+read_block-requires-clause-paired g c =
+    ap (map (λ (channel : ChannelRead). channel.position)) c.loop-from.invariant.read
     ∙ (positions_stay c.args.size c.args.run.now 0 c.loop-from.from c.args.channels.now ∙ c.requires.paired)
-    in
-    of_channels (λ p. 10 + 2 * p ≤ c.args.size) c.loop-from.channels c.args.positions.now same
-    c.requires.layout.room
-
-pub take_records-requires-clause-counts : goal.take_records-requires-clause-counts
-take_records-requires-clause-counts g c =
-    let size = c.args.size in
-    let run = c.args.run.now in
-    let positions = c.args.positions.now in
-    let end = c.loop-from.from + c.min.result in
-    let at : List ChannelRead → List ℕ = map (λ (channel : ChannelRead). channel.position) in
-    let same : at c.loop-from.channels ≡ positions = ap at c.loop-from.invariant.read
-    ∙ (positions_stay size run 0 c.loop-from.from c.args.channels.now ∙ c.requires.paired) in
-    let good : first_fault (judged_run size positions c.args.start run end) ≡ Ok (tt {0}) =
-    sym c.judge_records.ensures ∙ c.in_ok-judge_records.was in
-    of_channels (HasCounts size run end) c.loop-from.channels positions same
-    (counts_of_good size positions c.args.start run end good)
 
 -- one more block
 pub loop-from-preserved : goal.loop-from-preserved
@@ -58,8 +39,8 @@ loop-from-preserved g c =
     let end = start + c.min.result in
     record {
       within = omega arith;
-      good = sym c.judge_records.ensures ∙ c.in_ok-judge_records.was;
-      read = c.in_ok-take_records.ensures.value
+      good = c.in_ok-read_block.ensures.value;
+      read = c.in_ok-read_block.ensures.read
           ∙ (ap (map (read_on size run start end)) c.loop-from.invariant.read
           ∙ all_read_further size run start end (omega arith) c.args.channels.now);
     }

@@ -1,90 +1,189 @@
-use Rattle.std.proofs.Common.{◌+◌, Err, sym, ap, ◌∙◌, subst, take, inr}
-use Rattle.lane_workers.proofs.RunLaws.{got, in_range, one_longer}
-use Rattle.lane_workers.specs.Printing.{is_failed}
+use Rattle.std.proofs.Common.{◌∙◌, ◌+◌, false, length, take, ap, sym, subst, arith, inl}
+use Rattle.std.proofs.Math.Seq.{take-length}
+use Rattle.std.specs.List.{All}
+use Rattle.lane_workers.proofs.RunLaws.{broke_off, counts_on, front_broken, in_range, next_in_range, rose_later, several_printed, stays, stays_alone, take_next}
+use Rattle.lane_workers.specs.Printing.{BreaksAmong, is_failed}
 use Rattle.lane_workers.specs.Running.{HasRun}
-use Rattle.pq_base.specs.Causes.{CountsOnce}
+use Rattle.pq_base.specs.Recorded.{sample_count}
+use Rattle.pq_items.specs.ItemRange.{IsItemInRange}
 use Rattle.progress_words.specs.PassView.{reader_part}
-use Rattle.query_session.specs.Session.{result_of, view_of}
+use Rattle.progress_words.specs.Words.{reader_of}
+use Rattle.query_session.specs.Session.{AreWords, result_of, view_of}
 use Rattle.lane_workers.proofs.printing.print_next.Goals as goal
 
--- the item is one of the result
+-- the items are of the result
+pub print_each-requires : goal.print_each-requires
+print_each-requires g c =
+    let old = c.args.session.now in
+    let n = c.next_several-next in
+    subst (All IsItemInRange) (sym c.as_slice.ensures.value)
+    (next_in_range (view_of old).name.recording (view_of old).name.limits old.cursor n.new.items.items
+    c.requires.recording n.ensures.gives.next)
+
+-- the printer broke off in one of them
+pub returns-in-Err-clause-gives : goal.returns-in-Err-clause-gives
+returns-in-Err-clause-gives g c =
+    let h = c.requires.printing in
+    let old = c.args.session.now in
+    let n = c.next_several-next in
+    let xs = n.new.items.items in
+    let way = g.P.Printer in
+    let p = c.args.printer.now in
+    let q = c.print_each.new.printer in
+    let now = c.broken_off.new.session in
+    let t = stays_alone old n.new.self (old.cursor + length xs) n.result n.ensures.gives.answers in
+    let broken = subst (λ slice. BreaksAmong (way.printed p) slice (way.broke q)) c.as_slice.ensures.value
+    c.in-Err.ensures.broke in
+    let broke = front_broken (result_of old) xs old.cursor (way.printed p) (way.broke q) n.ensures.gives.next
+    h.prints broken in
+    subst (HasRun way old now p q) (sym c.broken_off.ensures.value)
+    (broke_off way old n.new.self now p q c.print_each.result c.in-Err.fault c.in-Err.is
+    c.print_each.ensures.made c.print_each.ensures.count c.print_each.ensures.counted
+    c.print_each.ensures.failed t.name c.broken_off.ensures.view c.broken_off.ensures.idle broke)
+
+-- and so is the item after them
 pub print-requires : goal.print-requires
 print-requires g c =
     let old = c.args.session.now in
-    let t = got old c.next_wait.new.self c.in-Item.item c.in-Item.ensures.answers in
-    in_range (view_of old).name.recording (view_of old).name.limits old.cursor c.in-Item.item
-    c.requires.recording t.item
+    in_range (view_of old).name.recording (view_of old).name.limits
+    (old.cursor + length c.next_several-next.new.items.items) c.in-Item.item c.requires.recording
+    c.in-Item.ensures.gives.answers.1
 
 -- it is printed
 pub returns-in-Ok-clause-gives : goal.returns-in-Ok-clause-gives
 returns-in-Ok-clause-gives g c =
     let h = c.requires.printing in
     let old = c.args.session.now in
-    let next = c.next_wait.new.self in
-    let x = c.in-Item.item in
-    let t = got old next x c.in-Item.ensures.answers in
     let all = result_of old in
-    let printed = g.P.Printer.printed c.print.new.self in record {
-      made_with = c.print.ensures.made;
-      rises = c.print.ensures.count;
-      counted = c.in-Ok.ensures.counted;
-      name = t.name;
-      idle = c.in-Item.ensures.idle;
-      alone = t.alone h.alone;
-      prints = subst (λ k. printed (take k all)) (sym c.in-Item.ensures.cursor)
-          (one_longer old next x printed t (c.in-Ok.ensures.printed (take old.cursor all) h.prints));
-    }
-
--- the printer broke off, and the count rose
-pub returns-in-Err-Failed-clause-gives : goal.returns-in-Err-Failed-clause-gives
-returns-in-Err-Failed-clause-gives g c =
-    let h = c.requires.printing in
-    let old = c.args.session.now in
-    let next = c.next_wait.new.self in
-    let x = c.in-Item.item in
-    let t = got old next x c.in-Item.ensures.answers in
+    let n = c.next_several-next in
+    let xs = n.new.items.items in
+    let k = old.cursor + length xs in
     let way = g.P.Printer in
     let p = c.args.printer.now in
-    let q = c.print.new.self in
-    let broken = c.in-Err-Failed.ensures.broke (take old.cursor (result_of old)) h.prints in
-    let broke = one_longer old next x (way.broke q) t broken in
-    let e = c.in-Err-Failed.is ∙ ap Err c.in-Err-Failed.field-0-is in
+    let q = c.print_each.new.printer in
+    let r = c.print.new.self in
+    let t = stays_alone old n.new.self k n.result n.ensures.gives.answers in
+    let printed = several_printed all xs c.as_slice.result.now old.cursor (way.printed p) (way.printed q)
+    c.as_slice.ensures.value n.ensures.gives.next c.in_default.ensures.printed h.prints in
+    let next = take_next all k c.in-Item.item c.in-Item.ensures.gives.answers.1 in
+    let first = c.print_each.ensures.count in
+    let second = c.print.ensures.count in record {
+      made_with = c.print.ensures.made ∙ c.print_each.ensures.made;
+      rises = omega (arith, first, second);
+      counted = counts_on way.counts_each (way.count p) (way.count q) (way.count r) false
+          c.in_default.ensures.counted c.in-Ok.ensures.counted;
+      name = t.name;
+      idle = n.ensures.idle;
+      alone = t.alone h.alone;
+      prints = subst (λ j. way.printed r (take j all)) (sym c.in-Item.ensures.gives.cursor)
+          (subst (way.printed r) next (c.in-Ok.ensures.printed (take k all) printed));
+    }
+
+-- the printer broke off in it
+pub returns-in-Err-print-clause-gives : goal.returns-in-Err-print-clause-gives
+returns-in-Err-print-clause-gives g c =
+    let h = c.requires.printing in
+    let old = c.args.session.now in
+    let all = result_of old in
+    let n = c.next_several-next in
+    let xs = n.new.items.items in
+    let k = old.cursor + length xs in
+    let way = g.P.Printer in
+    let p = c.args.printer.now in
+    let q = c.print_each.new.printer in
+    let r = c.print.new.self in
+    let now = c.broken_off-in-Err-print.new.session in
+    let t = stays_alone old n.new.self k n.result n.ensures.gives.answers in
+    let printed = several_printed all xs c.as_slice.result.now old.cursor (way.printed p) (way.printed q)
+    c.as_slice.ensures.value n.ensures.gives.next c.in_default.ensures.printed h.prints in
+    let next = take_next all k c.in-Item.item c.in-Item.ensures.gives.answers.1 in
+    let first = c.print_each.ensures.count in
+    let second = c.print.ensures.count in
+    subst (HasRun way old now p r) (sym c.broken_off-in-Err-print.ensures.value)
+    (broke_off way old n.new.self now p r c.print.result c.in-Err-print.fault c.in-Err-print.is
+    (c.print.ensures.made ∙ c.print_each.ensures.made) (omega (arith, first, second))
+    (counts_on way.counts_each (way.count p) (way.count q) (way.count r) (is_failed c.print.result)
+    c.in_default.ensures.counted c.print.ensures.counted)
+    (λ e. rose_later (way.count p) (way.count q) (way.count r) first (c.print.ensures.failed e)) t.name
+    c.broken_off-in-Err-print.ensures.view c.broken_off-in-Err-print.ensures.idle
+    (k + 1, subst (way.broke r) next (c.in-Err-print.ensures.broke (take k all) printed)))
+
+-- all is printed
+pub returns-in-End-clause-gives : goal.returns-in-End-clause-gives
+returns-in-End-clause-gives g c =
+    let h = c.requires.printing in
+    let old = c.args.session.now in
+    let all = result_of old in
+    let n = c.next_several-next in
+    let xs = n.new.items.items in
+    let k = old.cursor + length xs in
+    let way = g.P.Printer in
+    let p = c.args.printer.now in
+    let q = c.print_each.new.printer in
+    let t = stays_alone old n.new.self k n.result n.ensures.gives.answers in
+    let answers = c.in-End.ensures.gives.answers in
+    let printed = several_printed all xs c.as_slice.result.now old.cursor (way.printed p) (way.printed q)
+    c.as_slice.ensures.value n.ensures.gives.next c.in_default.ensures.printed h.prints in record {
+      made_with = c.print_each.ensures.made;
+      rises = c.print_each.ensures.count;
+      counted = c.in_default.ensures.counted;
+      name = t.name;
+      idle = n.ensures.idle;
+      runs_to = (
+        subst (way.printed q) (ap (λ j. take j all) answers.2 ∙ take-length all) printed,
+        c.in-End.ensures.gives.cursor ∙ answers.2,
+        subst (λ name. AreWords (reader_of n.new.self.pass) (sample_count name.recording)) (sym t.name)
+            answers.1,
+      );
+    }
+
+-- want of memory for what is next
+pub returns-in-OutOfMemory-clause-gives : goal.returns-in-OutOfMemory-clause-gives
+returns-in-OutOfMemory-clause-gives g c =
+    let h = c.requires.printing in
+    let old = c.args.session.now in
+    let all = result_of old in
+    let n = c.next_several-next in
+    let xs = n.new.items.items in
+    let k = old.cursor + length xs in
+    let way = g.P.Printer in
+    let p = c.args.printer.now in
+    let q = c.print_each.new.printer in
     let now = c.halted.new.session in
     let halted = c.halted.ensures.view in
-    let has_halted = ap (λ v. (reader_part v.role).wrote_stop) halted in
+    let t = stays_alone old n.new.self k n.result n.ensures.gives.answers in
+    let printed = several_printed all xs c.as_slice.result.now old.cursor (way.printed p) (way.printed q)
+    c.as_slice.ensures.value n.ensures.gives.next c.in_default.ensures.printed h.prints in
     subst (HasRun way old now p q) (sym c.halted.ensures.value) record {
-      made_with = c.print.ensures.made;
-      rises = c.print.ensures.count;
-      counted = subst (λ r. CountsOnce way.counts_each (way.count p) (way.count q) (is_failed r)) e
-          c.print.ensures.counted;
+      made_with = c.print_each.ensures.made;
+      rises = c.print_each.ensures.count;
+      counted = c.in_default.ensures.counted;
       name = ap (λ v. v.name) halted ∙ t.name;
       idle = c.halted.ensures.idle;
-      runs_to = (c.print.ensures.failed e, (old.cursor + 1, broke), has_halted);
+      runs_to = (inl (k, printed), ap (λ v. (reader_part v.role).wrote_stop) halted);
     }
 
--- the printer broke off for want of memory
-pub returns-in-Err-OutOfMemory-clause-gives : goal.returns-in-Err-OutOfMemory-clause-gives
-returns-in-Err-OutOfMemory-clause-gives g c =
+-- the session waits
+pub returns-in_default-next-clause-gives : goal.returns-in_default-next-clause-gives
+returns-in_default-next-clause-gives g c =
     let h = c.requires.printing in
     let old = c.args.session.now in
-    let next = c.next_wait.new.self in
-    let x = c.in-Item.item in
-    let t = got old next x c.in-Item.ensures.answers in
+    let all = result_of old in
+    let n = c.next_several-next in
+    let xs = n.new.items.items in
+    let k = old.cursor + length xs in
     let way = g.P.Printer in
     let p = c.args.printer.now in
-    let q = c.print.new.self in
-    let broken = c.in-Err-OutOfMemory.ensures.broke (take old.cursor (result_of old)) h.prints in
-    let broke = one_longer old next x (way.broke q) t broken in
-    let e = c.in-Err-OutOfMemory.is ∙ ap Err c.in-Err-OutOfMemory.field-0-is in
-    let now = c.halted-in-Err-OutOfMemory.new.session in
-    let halted = c.halted-in-Err-OutOfMemory.ensures.view in
-    let has_halted = ap (λ v. (reader_part v.role).wrote_stop) halted in
-    subst (HasRun way old now p q) (sym c.halted-in-Err-OutOfMemory.ensures.value) record {
-      made_with = c.print.ensures.made;
-      rises = c.print.ensures.count;
-      counted = subst (λ r. CountsOnce way.counts_each (way.count p) (way.count q) (is_failed r)) e
-          c.print.ensures.counted;
-      name = ap (λ v. v.name) halted ∙ t.name;
-      idle = c.halted-in-Err-OutOfMemory.ensures.idle;
-      runs_to = (inr (old.cursor + 1, broke), has_halted);
+    let q = c.print_each.new.printer in
+    let t = stays_alone old n.new.self k n.result n.ensures.gives.answers in
+    let printed = several_printed all xs c.as_slice.result.now old.cursor (way.printed p) (way.printed q)
+    c.as_slice.ensures.value n.ensures.gives.next c.in_default.ensures.printed h.prints in
+    let at = n.ensures.gives.cursor ∙ stays n.result k c.in_default-next.not-Item in record {
+      made_with = c.print_each.ensures.made;
+      rises = c.print_each.ensures.count;
+      counted = c.in_default.ensures.counted;
+      name = t.name;
+      idle = n.ensures.idle;
+      alone = t.alone h.alone;
+      prints = subst (λ j. way.printed q (take j all)) (sym at) printed;
     }

@@ -1,17 +1,14 @@
-use Rattle.std.proofs.Common.{◌≡◌, ◌++◌, ◌-◌, map}
-use Rattle.std.specs.List.{All, range_with_len}
-use Rattle.comtrade_dat.specs.Samples.{sample_at}
-use Rattle.pq_words.specs.declared.limits.TheConstants.{MOST_MICROVOLTS}
-use Rattle.pq_words.specs.Magnitude.{IsWithin}
+use Rattle.std.proofs.Common.{◌-◌, ◌≤◌}
+use Rattle.comtrade_dat.specs.Channel.{HasRead}
 use Rattle.comtrade_dat.proofs.channel.Channel.take_records.Given as goal
 
--- the samples of the records so far, each within the limit
-abbrev pub invariant-loop-index : goal.invariant-loop-index
-invariant-loop-index l = record {
-  position : l.self-inside.position ≡ l.position;
-  coefficients : l.self-inside.coefficients ≡ l.coefficients;
-  lacks_memory : l.self-inside.lacks_memory ≡ l.initial.self-inside.lacks_memory;
-  value : l.self-inside.samples.items ≡ l.initial.self-inside.samples.items
-      ++ map (sample_at l.coefficients l.size l.position l.dat) (range_with_len l.start (l.index - l.start));
-  quiet : All (IsWithin MOST_MICROVOLTS) l.self-inside.samples.items;
+-- the records so far are taken
+abbrev pub invariant-loop-from : goal.invariant-loop-from
+invariant-loop-from l = record {
+  start : l.start ≤ l.from;
+  within : l.from ≤ l.end;
+  read : HasRead l.size l.dat l.start l.from l.fn.self l.self;
 }
+
+abbrev pub decreases-loop-from : goal.decreases-loop-from
+decreases-loop-from l = l.end - l.from
