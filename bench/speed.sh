@@ -4,6 +4,8 @@
 # and compares their output; then `analyse` on all processors and on one. Outside the gate: wants rustc, python3,
 # taskset and a gigabyte for files.
 set -e
+# Large pages, as the launcher asks for them; the plain programs have them too.
+export GLIBC_TUNABLES="${GLIBC_TUNABLES:-glibc.malloc.hugetlb=1}"
 home=$(cd "$(dirname "$0")/.." && pwd)
 work=$(mktemp -d)
 trap 'rm -rf "$work"' EXIT
