@@ -39,11 +39,16 @@ all_positions channels = map (λ channel. channel.position) channels
 abbrev pub all_samples : List ChannelRead → List (List ℤ)
 all_samples channels = map (λ channel. channel.samples) channels
 
+-- the samples of so many records from an index on, of a channel with these coefficients at a position
+abbrev pub samples_from : Coefficients → ℕ → ℕ → Text → ℕ → ℕ → List ℤ
+samples_from k size position dat start count =
+    map (sample_at k size position dat) (range_with_len start count)
+
 -- a channel after the records from an index to another, which is not included
 abbrev pub read_on : ℕ → Text → ℕ → ℕ → ChannelRead → ChannelRead
 read_on size dat start end channel = record channel {
-  samples = channel.samples ++ map (sample_at channel.coefficients size channel.position dat)
-      (range_with_len start (end - start));
+  samples = channel.samples
+      ++ samples_from channel.coefficients size channel.position dat start (end - start);
 }
 
 -- a channel took the samples of these records, which all have a count

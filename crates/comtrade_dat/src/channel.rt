@@ -1,7 +1,7 @@
 // A selected channel that is being read.
-ghost use Rattle.std.specs.Prelude.{◌≡◌, ◌+◌, ◌-◌, ◌*◌, ◌<◌, ◌≤◌, true, All, OnOk, length};
+ghost use Rattle.std.specs.Prelude.{◌≡◌, ◌+◌, ◌-◌, ◌*◌, ◌≤◌, true, All, OnOk, length};
 ghost use Rattle.comtrade_cfg.specs.Selecting.{AreWithinLimit};
-ghost use Rattle.comtrade_dat.specs.Channel.{HasRead, HasTaken, read_on, unread_with};
+ghost use Rattle.comtrade_dat.specs.Channel.{HasRead, HasTaken, read_on, samples_from, unread_with};
 ghost use Rattle.comtrade_dat.specs.Run.{HaveCounts};
 ghost use Rattle.pq_words.specs.declared.limits.TheConstants.{MOST_MICROVOLTS};
 ghost use Rattle.pq_words.specs.Magnitude.{IsWithin};
@@ -96,9 +96,8 @@ impl Channel {
         true
     }
 
-    // Takes the samples of records that have a count. Apart from its caller its loop has the registers for
-    // itself.
-    #[inline(never)]
+    // Takes the samples of a few records that have a count: they are made in places of their own, and
+    // appended at once.
     fn take_counts(
         &mut self,
         size: usize,
@@ -107,18 +106,16 @@ impl Channel {
         end: usize,
     ) -> Result<(), AllocError>
         requires forward { start ≤ end }
+        requires few { end - start ≤ AT_ONCE }
         requires whole { size * end ≤ length dat.now }
         requires room { 10 + 2 * self.old.position ≤ size }
         requires counts { HaveCounts size dat.now start end self.old.position }
         ensures { OnOk result (self.new ≡ read_on size dat.now start end self.old) }
     {
-        let coefficients = self.coefficients;
-        let position = self.position;
-        for index in start..end {
-            let count = count_in(record_at(size, dat, index), position);
-            self.samples.push(microvolts(&coefficients, count))?;
-        }
-        Ok(())
+        let mut places = [0; AT_ONCE];
+        let samples = &mut places[..end - start];
+        make_samples(&self.coefficients, size, dat, start, self.position, samples);
+        self.samples.extend_from_slice(samples)
     }
 
     // Takes them in a thread, which tells nothing: it keeps whether it stopped.
@@ -152,5 +149,32 @@ impl Channel {
         ensures quiet { All (IsWithin MOST_MICROVOLTS) result.items }
     {
         self.samples
+    }
+}
+
+// Makes the samples of the records from an index on, as many as there are places. Apart from its caller its
+// loop has the registers for itself.
+#[inline(never)]
+fn make_samples(
+    coefficients: &Coefficients,
+    size: usize,
+    dat: &[u8],
+    start: usize,
+    position: usize,
+    places: &mut [i64],
+)
+    requires limit { AreWithinLimit coefficients.now }
+    requires whole { size * (start + length places.old) ≤ length dat.now }
+    requires room { 10 + 2 * position ≤ size }
+    requires counts { HaveCounts size dat.now start (start + length places.old) position }
+    ensures value { places.new ≡
+        samples_from coefficients.now size position dat.now start (length places.old) }
+    ensures quiet { All (IsWithin MOST_MICROVOLTS) places.new }
+{
+    // a copy stays in registers, whatever is written
+    let coefficients = *coefficients;
+    for index in 0..places.len() {
+        let count = count_in(record_at(size, dat, start + index), position);
+        places[index] = microvolts(&coefficients, count);
     }
 }

@@ -8,9 +8,8 @@ ghost use Rattle.pq_words.specs.declared.limits.TheConstants.{MOST_MICROVOLTS};
 ghost use Rattle.pq_words.specs.Magnitude.{IsWithin};
 
 use comtrade_cfg::Coefficients;
-use pq_base::rounded_quotient;
 
-const PICOVOLTS_IN_MICROVOLT: u128 = 1_000_000;
+const PICOVOLTS_IN_MICROVOLT: u64 = 1_000_000;
 
 // The sample of a count that is there, in whole microvolts.
 pub(crate) fn microvolts(coefficients: &Coefficients, count: i16) -> i64
@@ -70,5 +69,5 @@ fn rounded(picovolts: u64) -> i64
     ensures value { result ≡ pos (rounded_quotient picovolts (10 ^ 6)) }
     ensures within { result ≤ℤ pos MOST_MICROVOLTS }
 {
-    rounded_quotient(u128::from(picovolts), PICOVOLTS_IN_MICROVOLT) as i64
+    ((picovolts + PICOVOLTS_IN_MICROVOLT / 2) / PICOVOLTS_IN_MICROVOLT) as i64
 }

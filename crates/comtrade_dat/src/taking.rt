@@ -16,6 +16,10 @@ pub trait Taking {
     fn records_at_once(&self) -> usize
         ensures { 0 < result };
 
+    /// How many bytes of a dat are best fed at once.
+    fn bytes_at_once(&self) -> usize
+        ensures { 0 < result };
+
     /// Takes the samples of the records from an index to another. Gives whether it took them all: not where a
     /// count is missing, or there is no memory.
     fn take_records(
@@ -43,6 +47,11 @@ impl Taking for OneThread {
     // Few enough that they stay near.
     fn records_at_once(&self) -> usize {
         1024
+    }
+
+    // The same.
+    fn bytes_at_once(&self) -> usize {
+        131_072
     }
 
     fn take_records(
@@ -77,6 +86,11 @@ impl<'a, R: Threads + Sync> Taking for SideBySide<'a, R> {
     // So many that a thread is worth its start.
     fn records_at_once(&self) -> usize {
         1_048_576
+    }
+
+    // The same.
+    fn bytes_at_once(&self) -> usize {
+        4_194_304
     }
 
     fn take_records(

@@ -1,8 +1,13 @@
 -- The root as a function is the greatest number whose square fits, and the only one.
-use Rattle.std.proofs.Common.{◌≡◌, ℕ, zero, suc, ◌+◌, ◌*◌, ◌/◌, ◌^◌, ◌<◌, ◌≤◌, Bool, true, false, cond, nat_le, refl, inl, inr, arith}
+use Rattle.std.proofs.Common.{◌≡◌, ℕ, zero, suc, ◌+◌, ◌*◌, ◌/◌, ◌^◌, ◌<◌, ◌≤◌, Bool, true, false, cond, nat_le, List, length, ℤ, pos, negsuc, All, refl, inl, inr, arith}
+use Rattle.std.specs.Prelude.{unsigned_abs}
 use Rattle.std.proofs.lemmas.Bool.{cases_lt}
+use Rattle.std.proofs.lemmas.Int.{ints}
+use Rattle.std.proofs.lemmas.List.Elements.{All-weaker}
+use Rattle.std.proofs.lemmas.List.Sums.{sum_by-le}
 use Rattle.pq_words.specs.declared.limits.TheConstants.{MOST_MICROVOLTS}
-use Rattle.fixed_rms.specs.Root.{IsGreatestRoot, root_in, isqrt}
+use Rattle.pq_words.specs.Magnitude.{IsWithin}
+use Rattle.fixed_rms.specs.Root.{IsGreatestRoot, root_in, isqrt, square, sum_of_squares}
 
 square_of_double : (r : ℕ) → (2 * r) * (2 * r) ≡ 4 * (r * r)
 square_of_double r = grind arith
@@ -58,3 +63,16 @@ isqrt_only x r small h = one_root x r (isqrt x) h (isqrt_is x small)
 -- the square of a magnitude of a sample
 pub square_within : (n : ℕ) → n ≤ MOST_MICROVOLTS → n * n ≤ MOST_MICROVOLTS ^ 2
 square_within n h = squares_rise n MOST_MICROVOLTS h
+
+abs_within : (n : ℕ) (z : ℤ) → IsWithin n z → unsigned_abs z ≤ n
+abs_within n (pos k) small = omega (arith, ints, small)
+abs_within n (negsuc k) small = omega (arith, ints, small)
+
+-- and of all of them
+pub squares_within : (samples : List ℤ) → All (IsWithin MOST_MICROVOLTS) samples →
+    sum_of_squares samples ≤ length samples * MOST_MICROVOLTS ^ 2
+squares_within samples quiet =
+    let weight : ℤ → ℕ = λ sample. square (unsigned_abs sample) in
+    sum_by-le weight (MOST_MICROVOLTS ^ 2) samples
+    (All-weaker (IsWithin MOST_MICROVOLTS) (λ z. weight z ≤ MOST_MICROVOLTS ^ 2)
+    (λ z h. square_within (unsigned_abs z) (abs_within MOST_MICROVOLTS z h)) samples quiet)

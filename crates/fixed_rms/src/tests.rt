@@ -46,6 +46,15 @@ fn worked_values(rt: HostRuntime) -> Result<(), Fail> {
     assert_eq!(rt; mean_square(&[3, -4]), 12);
     assert_eq!(rt; sum_of_squares(&[3, -4]), 25);
     assert_eq!(rt; sum_of_squares(&[]), 0);
+    // on both sides of 32 bits
+    assert_eq!(rt;
+        sum_of_squares(&[4_294_967_295, -4_294_967_295]),
+        36_893_488_130_239_234_050
+    );
+    assert_eq!(rt;
+        sum_of_squares(&[4_294_967_295, -4_294_967_296]),
+        36_893_488_138_829_168_641
+    );
     assert_eq!(rt; root_of_mean(35, 4), 2);
     assert_eq!(rt; root_of_mean(36, 4), 3);
     assert_eq!(rt; rms(&SINE), 229_805_362);

@@ -1,18 +1,15 @@
 -- The basic intervals of a recording are such as an aggregator may be fed, so many of them and one more.
-use Rattle.std.proofs.Common.{◌≡◌, ℕ, zero, suc, ◌+◌, ◌-◌, ◌*◌, ◌/◌, ◌^◌, ◌<◌, ◌≤◌, List, [], ◌∷◌, ◌++◌, length, take, drop, sum_by, ℤ, pos, negsuc, All, slice_get, slice_range, Some, refl, sym, ◌∙◌, subst, inl, inr, arith}
-use Rattle.std.specs.Prelude.{unsigned_abs}
+use Rattle.std.proofs.Common.{◌≡◌, ℕ, zero, suc, ◌+◌, ◌-◌, ◌*◌, ◌/◌, ◌^◌, ◌<◌, ◌≤◌, List, [], ◌∷◌, ◌++◌, length, take, drop, ℤ, All, slice_get, slice_range, Some, refl, sym, ◌∙◌, subst, inl, inr, arith}
 use Rattle.std.proofs.Math.Nat.{div-le_of_le-mul}
 use Rattle.std.proofs.lemmas.Bool.{cases_lt}
-use Rattle.std.proofs.lemmas.Int.{ints}
 use Rattle.std.proofs.lemmas.List.{get_or_append_left, length-append, length-map, take-append-drop}
 use Rattle.std.proofs.lemmas.List.Elements.{All-drop, All-map, All-take, All-weaker}
-use Rattle.std.proofs.lemmas.List.Sums.{sum_by-le}
 use Rattle.aggregate.specs.Aggregation.{Basic}
 use Rattle.aggregate.specs.BasicOrder.{AreBasics, BeginsAtFront, Follows, IsBasic}
 use Rattle.event_detect.specs.declared.event.Event.{Event}
 use Rattle.event_detect.specs.declared.limits.Limits.{Limits}
-use Rattle.fixed_rms.specs.Root.{isqrt, mean_square, rms, square}
-use Rattle.fixed_rms.proofs.RootLaws.{isqrt_is, square_within}
+use Rattle.fixed_rms.specs.Root.{isqrt, mean_square, rms, sum_of_squares}
+use Rattle.fixed_rms.proofs.RootLaws.{isqrt_is, squares_within}
 use Rattle.interval_ledger.specs.Merged.{all_basics}
 use Rattle.interval_ledger.proofs.StepLaws.{taken_more}
 use Rattle.lanes.specs.Lane.{recorded_runs}
@@ -31,10 +28,6 @@ use Rattle.ten_twelve.specs.declared.span.Span.{Span}
 
 -- ---- no root is too great
 
-abs_within : (n : ℕ) (z : ℤ) → IsWithin n z → unsigned_abs z ≤ n
-abs_within n (pos k) small = omega (arith, ints, small)
-abs_within n (negsuc k) small = omega (arith, ints, small)
-
 squares_rise : (r s : ℕ) → r ≤ s → r * r ≤ s * s
 squares_rise r s h = grind (arith, h)
 
@@ -47,15 +40,11 @@ root_within r h = elim (cases_lt MOST_MICROVOLTS r) [
 pub rms_within : (samples : List ℤ) → All (IsWithin MOST_MICROVOLTS) samples → rms samples ≤ MOST_MICROVOLTS
 unfolding rms mean_square
 rms_within samples quiet =
-    let weight : ℤ → ℕ = λ sample. square (unsigned_abs sample) in
-    let total : sum_by weight samples ≤ length samples * MOST_MICROVOLTS ^ 2 =
-    sum_by-le weight (MOST_MICROVOLTS ^ 2) samples
-    (All-weaker (IsWithin MOST_MICROVOLTS) (λ z. weight z ≤ MOST_MICROVOLTS ^ 2)
-    (λ z h. square_within (unsigned_abs z) (abs_within MOST_MICROVOLTS z h)) samples quiet) in
-    let mean : sum_by weight samples / length samples ≤ MOST_MICROVOLTS ^ 2 =
-    div-le_of_le-mul (length samples) total in
-    let root = isqrt_is (sum_by weight samples / length samples) (omega (arith, mean)) in
-    root_within (isqrt (sum_by weight samples / length samples)) (omega (arith, root.square, mean))
+    let sum : ℕ = sum_of_squares samples in
+    let mean : sum / length samples ≤ MOST_MICROVOLTS ^ 2 =
+    div-le_of_le-mul (length samples) (squares_within samples quiet) in
+    let root = isqrt_is (sum / length samples) (omega (arith, mean)) in
+    root_within (isqrt (sum / length samples)) (omega (arith, root.square, mean))
 
 -- ---- all of them
 

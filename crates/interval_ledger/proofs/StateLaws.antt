@@ -1,5 +1,5 @@
 -- The state of merging: what a step leaves as it is, and what holds after it.
-use Rattle.std.proofs.Common.{◌≡◌, ℕ, zero, suc, ◌+◌, ◌-◌, ◌*◌, ◌^◌, ◌<◌, ◌≤◌, max, List, [], ◌∷◌, length, map, take, drop, Option, None, Some, option_and_then, slice_get, slice_index, sum, sum_by, get_or, refl, sym, ◌∙◌, ap, subst, inl, inr, arith}
+use Rattle.std.proofs.Common.{◌≡◌, ℕ, zero, suc, ◌+◌, ◌-◌, ◌*◌, ◌^◌, ◌<◌, ◌≤◌, max, List, [], ◌∷◌, length, map, take, drop, Option, None, Some, option_and_then, slice_get, slice_index, slice_set, sum, sum_by, get_or, refl, sym, ◌∙◌, ap, subst, inl, inr, arith}
 use Rattle.std.specs.Option.{option_map_or}
 use Rattle.std.specs.List.{AllByRecursion}
 use Rattle.std.specs.declared.alloc.Global.{Global}
@@ -15,7 +15,7 @@ use Rattle.interval_ledger.specs.declared.merging.Merging.{Merging}
 use Rattle.interval_ledger.specs.declared.next_due.Due.{Due}
 use Rattle.interval_ledger.specs.declared.next_due.Due.TheVariants as due
 use Rattle.interval_ledger.specs.Channel.{ChannelView, first_start, first_starts, with_merged}
-use Rattle.interval_ledger.specs.Earliest.{IsFirstLeast}
+use Rattle.interval_ledger.specs.Earliest.{DifferAt, IsFirstLeast}
 use Rattle.interval_ledger.specs.Heads.{HeadsArePosted, heads_of}
 use Rattle.interval_ledger.specs.Known.{AddsReading, AddsWindow, Ends, IsKnown, IsNextWindow, KeepsKnown, KeepsName, KnownView, MovesMark}
 use Rattle.interval_ledger.specs.Left.{IsLeft}
@@ -67,6 +67,18 @@ index_mapped : {X : Type 0} (f : X → ℕ) (xs : List X) (k : ℕ) (x : X) → 
 index_mapped f [] k x is = absurd (let bad : ⊥ = cc in bad)
 index_mapped f (y ∷ ys) zero x is = ap f (inner y x is)
 index_mapped f (y ∷ ys) (suc k) x is = index_mapped f ys k x is
+
+mapped_set : {X : Type 0} (f : X → ℕ) (xs : List X) (k : ℕ) (y : X) →
+    map f (slice_set xs k y) ≡ slice_set (map f xs) k (f y)
+mapped_set f [] zero y = refl
+mapped_set f [] (suc k) y = refl
+mapped_set f (x ∷ xs) zero y = refl
+mapped_set f (x ∷ xs) (suc k) y = ap (λ ys. f x ∷ ys) (mapped_set f xs k y)
+
+index_set : (xs : List ℕ) (k y : ℕ) → k < length xs → slice_index (slice_set xs k y) k ≡ y
+index_set [] k y inside = absurd (omega (arith, inside))
+index_set (x ∷ xs) zero y inside = refl
+index_set (x ∷ xs) (suc k) y inside = index_set xs k y (omega (arith, inside))
 
 -- ---- what stays
 
@@ -306,6 +318,17 @@ module _ (old : Merging) (until c : ℕ) (may : MayMergeUntil old until)
           readings_same = refl;
           mark_same = refl;
         }
+
+    pub window_alone : DifferAt c (first_starts old.channels.items) (first_starts channels.items)
+    window_alone =
+        let found = found_at old.channels.items c channel_there in
+        let v = with_merged found.0 in
+        let starts = first_starts old.channels.items in
+        let new : first_starts channels.items ≡ slice_set starts c (first_start v) =
+        ap first_starts (takes found.0 found.1) ∙ mapped_set first_start old.channels.items c v in
+        let at : slice_index (first_starts channels.items) c ≡ first_start v =
+        ap (λ xs. slice_index xs c) new ∙ index_set starts c (first_start v) first.inside in
+        new ∙ ap (slice_set starts c) (sym at)
 
     pub window_fewer : count_left after < count_left old
     window_fewer =

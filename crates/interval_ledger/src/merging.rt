@@ -1,11 +1,11 @@
 // Merging: the next window, basic interval or reading, one after another.
 ghost use Rattle.std.specs.Prelude.{◌≡◌, ◌+◌, ◌<◌, ◌≤◌, length, Some, IsSome, OnOk};
 ghost use Rattle.interval_ledger.specs.Channel.{first_starts};
-ghost use Rattle.interval_ledger.specs.Earliest.{IsFirstLeast};
+ghost use Rattle.interval_ledger.specs.Earliest.{DifferAt, IsFirstLeast};
 ghost use Rattle.interval_ledger.specs.Merging.{HasMerged, HasPosted, IsDue, IsMerging, IsNext, IsWithinReach, KeepsMark, MayMergeUntil, MergesItems, MergesWindows, NoneBefore, TakesWindow, count_left, due_left, first_left};
 
 use crate::channel::{Channel, SpanValue};
-use crate::first_start::earliest;
+use crate::first_start::{earliest, first_starts};
 use crate::known::Known;
 use crate::next_due::{Due, next_due};
 use crate::queue::Queue;
@@ -136,7 +136,8 @@ impl Merging {
         Ok(())
     }
 
-    // Merges the windows that begin before a place.
+    // Merges the windows that begin before a place. The starts stand side by side, and only that of the
+    // channel whose window was merged is looked up again.
     fn merge_windows<L: Ledger>(
         &mut self,
         until: u64,
@@ -150,8 +151,11 @@ impl Merging {
         ensures ticks { MergesItems steps.old steps.new self.old self.new }
         ensures none { OnOk result (NoneBefore self.new until) }
     {
-        while let Some(position) = earliest(&self.channels, until) {
+        let mut places = first_starts(&self.channels);
+        let starts = &mut places[..self.channels.len()];
+        while let Some(position) = earliest(starts, until) {
             self.merge_window(position, until, steps)?;
+            starts[position] = self.channels[position].first_start();
         }
         Ok(())
     }
@@ -171,6 +175,8 @@ impl Merging {
         ensures at { IsMerging self.new }
         ensures same { MergesWindows self.old self.new }
         ensures ticks { MergesItems steps.old steps.new self.old self.new }
+        ensures others { OnOk result (DifferAt position (first_starts self.old.channels.items)
+            (first_starts self.new.channels.items)) }
         ensures fewer { OnOk result (count_left self.new < count_left self.old) }
     {
         let Some(window) = first_left(&self.channels, position) else {

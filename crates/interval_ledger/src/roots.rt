@@ -6,7 +6,7 @@ ghost use Rattle.interval_ledger.specs.Posted.{all_roots};
 use crate::channel::Channel;
 
 // Room for the values of the most channels.
-const SLOTS: usize = 16;
+pub(crate) const SLOTS: usize = 16;
 
 /// What each channel has posted at an index, by position, and 0 past the channels.
 pub(crate) fn roots(channels: &[Channel], k: usize) -> [u64; SLOTS]

@@ -1,43 +1,30 @@
 -- Bytes that grow row by row.
-use Rattle.std.proofs.Common.{◌≡◌, ℕ, ◌+◌, List, [], ◌∷◌, ◌++◌, length, take, drop, Option, refl, sym, ap, ◌∙◌, subst, arith, append-nil, append_assoc, length-append}
+use Rattle.std.proofs.Common.{◌≡◌, ℕ, ◌+◌, List, ◌++◌, length, take, drop, Option, refl, sym, ap, ◌∙◌, subst, arith, append_assoc, length-append}
 use Rattle.std.proofs.KnownBytes.{Appends-trans}
-use Rattle.std.proofs.Math.Seq.{take-append-add}
+use Rattle.std.proofs.Math.Seq.{take-append-add, take-length}
 use Rattle.std.proofs.lemmas.Grind.{flat_map-append}
 use Rattle.std.proofs.lemmas.List.{take-append-drop}
 use Rattle.std.specs.Io.KnownBytes.{Appends}
-use Rattle.std.specs.List.{flat_map}
+use Rattle.lane_workers.specs.Printing.{BreaksAmong}
 use Rattle.pq_base.specs.Outside.{AppendsFront}
 use Rattle.pq_course.specs.TopCall.{Writing, HasTakenFront}
 use Rattle.pq_items.specs.declared.item.Item.{Item}
-use Rattle.pq_report.specs.ReportText.{header, item_row, rows_text}
+use Rattle.pq_report.specs.ReportText.{header, item_row, item_rows, rows_text}
 use Rattle.pq_time.specs.declared.clock.Clock.{Clock}
 use Rattle.pq_words.specs.Text.{Text}
 
 -- the rows of two lists are those of the first, and then those of the second
 rows_parted : (clock : Clock) (first second : List Item) →
-    rows_text clock (first ++ second) ≡ rows_text clock first ++ flat_map (item_row clock) second
+    rows_text clock (first ++ second) ≡ rows_text clock first ++ item_rows clock second
 rows_parted clock first second =
     ap (λ (rows : Text). header ++ rows) (flat_map-append (item_row clock) first second)
-    ∙ sym (append_assoc header (flat_map (item_row clock) first) (flat_map (item_row clock) second))
-
--- one item more is one row more
-pub rows_more : (clock : Clock) (items : List Item) (i : Item) →
-    rows_text clock (items ++ i ∷ []) ≡ rows_text clock items ++ item_row clock i
-rows_more clock items i = rows_parted clock items (i ∷ [])
-    ∙ ap (λ (row : Text). rows_text clock items ++ row) (append-nil (item_row clock i))
+    ∙ sym (append_assoc header (item_rows clock first) (item_rows clock second))
 
 -- the rows of the first items, and the others
 rows_cut : (clock : Clock) (items : List Item) (k : ℕ) →
-    rows_text clock items ≡ rows_text clock (take k items) ++ flat_map (item_row clock) (drop k items)
+    rows_text clock items ≡ rows_text clock (take k items) ++ item_rows clock (drop k items)
 rows_cut clock items k = ap (rows_text clock) (sym (take-append-drop k items))
     ∙ rows_parted clock (take k items) (drop k items)
-
--- the row of an item was taken after those of others
-pub row_taken : (clock : Clock) (a b c : Option Text) (items : List Item) (i : Item) →
-    Appends a b (rows_text clock items) → Appends b c (item_row clock i) →
-    Appends a c (rows_text clock (items ++ i ∷ []))
-row_taken clock a b c items i so_far more = subst (Appends a c) (sym (rows_more clock items i))
-    (Appends-trans a b c (rows_text clock items) (item_row clock i) so_far more)
 
 -- a front of text that was taken after another text
 pub front_after : (a b c : Option Text) (text more : Text) → Appends a b text → AppendsFront b c more →
@@ -52,12 +39,19 @@ front_after a b c text more so_far front =
           (Appends-trans a b c text (take front.count more) so_far front.bytes);
     }
 
--- a front of the row of an item was taken after the rows of others
-pub row_cut_off : (clock : Clock) (a b c : Option Text) (items : List Item) (i : Item) →
-    Appends a b (rows_text clock items) → AppendsFront b c (item_row clock i) →
-    AppendsFront a c (rows_text clock (items ++ i ∷ []))
-row_cut_off clock a b c items i so_far front = subst (AppendsFront a c) (sym (rows_more clock items i))
-    (front_after a b c (rows_text clock items) (item_row clock i) so_far front)
+-- a front of the rows of more items was taken after those of others: it breaks off among them
+pub more_cut_off : (clock : Clock) (a b c : Option Text) (more : List Item) →
+    AppendsFront b c (item_rows clock more) →
+    BreaksAmong (λ items. Appends a b (rows_text clock items)) more
+    (λ items. AppendsFront a c (rows_text clock items))
+more_cut_off clock a b c more front = (
+  length more,
+  omega arith,
+  λ items so_far. subst (AppendsFront a c)
+      (sym (rows_parted clock items more)
+      ∙ ap (λ some. rows_text clock (items ++ some)) (sym (take-length more)))
+      (front_after a b c (rows_text clock items) (item_rows clock more) so_far front),
+)
 
 -- ---- fronts of the rows of all items
 
@@ -76,16 +70,16 @@ pub rows_taken : (clock : Clock) (items : List Item) (k : ℕ) (w : Writing) →
     Appends w.taken_before w.taken_after (rows_text clock (take k items)) →
     HasTakenFront w (rows_text clock items)
 rows_taken clock items k w taken =
-    (rows_text clock (take k items), flat_map (item_row clock) (drop k items), rows_cut clock items k, taken)
+    (rows_text clock (take k items), item_rows clock (drop k items), rows_cut clock items k, taken)
 
 pub rows_cut_off : (clock : Clock) (items : List Item) (k : ℕ) (w : Writing) →
     AppendsFront w.taken_before w.taken_after (rows_text clock (take k items)) →
     HasTakenFront w (rows_text clock items)
 rows_cut_off clock items k w front = front_taken w (rows_text clock (take k items))
-    (flat_map (item_row clock) (drop k items)) (rows_text clock items) (rows_cut clock items k) front
+    (item_rows clock (drop k items)) (rows_text clock items) (rows_cut clock items k) front
 
 -- a front of the header
 pub header_front : (clock : Clock) (items : List Item) (w : Writing) →
     AppendsFront w.taken_before w.taken_after header → HasTakenFront w (rows_text clock items)
 header_front clock items w front =
-    front_taken w header (flat_map (item_row clock) items) (rows_text clock items) refl front
+    front_taken w header (item_rows clock items) (rows_text clock items) refl front

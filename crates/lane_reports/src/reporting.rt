@@ -79,10 +79,10 @@ fn print_rows<R: Threads + Wait + Sync, O: Sink, G: Gate + Sync, B: Start>(
     let Ok((chain, seats, mut session)) = open_chain(alloc, recording, limits) else {
         return Status::OutOfMemory;
     };
-    let mut row = Vec::new(alloc);
+    let mut rows = Vec::new(alloc);
     let mut printer: SinkPrinter<'_, '_, O, B> = SinkPrinter {
         clock: clock_of(recording),
-        row: &mut row,
+        rows: &mut rows,
         out,
         start: PhantomData,
     };

@@ -1,7 +1,7 @@
 // A printer over a sink that it borrows.
 ghost use Rattle.pq_time.specs.Time.{IsClock};
 
-use crate::writing::write_row;
+use crate::writing::write_rows;
 use lane_workers::{PrintFault, Printer};
 use pq_base::Sink;
 use pq_items::Item;
@@ -35,8 +35,8 @@ impl Start for Brand {
 #[derive(Drop)]
 pub(crate) struct SinkPrinter<'a, 'r, O: Sink, B: Start> {
     pub(crate) clock: Clock,
-    // Room for the row that is written. A struct that held it would tell nothing of the sink after its end.
-    pub(crate) row: &'r mut Vec<u8>,
+    // Room for the rows that are written. A struct that held it would tell nothing of the sink after its end.
+    pub(crate) rows: &'r mut Vec<u8>,
     pub(crate) out: &'a mut O,
     pub(crate) start: PhantomData<B>,
     ghost begins: { IsClock clock },
@@ -59,8 +59,8 @@ impl<'a, 'r, O: Sink, B: Start> Printer for SinkPrinter<'a, 'r, O, B> {
 
     ghost counts_each = { O.counts_each };
 
-    fn print(&mut self, item: &Item) -> Result<(), PrintFault> {
-        write_row(self.row, &self.clock, item, self.out)
+    fn print(&mut self, items: &[Item]) -> Result<(), PrintFault> {
+        write_rows(self.rows, &self.clock, items, self.out)
     }
 
     fn faults(&self) -> u64 {

@@ -1,14 +1,15 @@
-// The rows of a report, one at a time, to a sink.
+// The rows of a report, those of several items at a time, to a sink.
+ghost use Rattle.std.specs.Prelude.{All};
 ghost use Rattle.lane_reports.specs.PrintedReport.{HandsOver};
 ghost use Rattle.pq_course.specs.TopCall.{writing_of};
 ghost use Rattle.pq_items.specs.ItemRange.{IsItemInRange};
-ghost use Rattle.pq_report.specs.ReportText.{header, item_row};
+ghost use Rattle.pq_report.specs.ReportText.{header, item_rows};
 ghost use Rattle.pq_time.specs.Time.{IsClock};
 
 use lane_workers::PrintFault;
 use pq_base::{Failed, OutOfMemory, Sink, write_all};
 use pq_items::Item;
-use pq_report::{header, push_row};
+use pq_report::{header, push_rows};
 use pq_time::Clock;
 use std::alloc::{AllocError, Global};
 
@@ -22,19 +23,20 @@ pub(crate) fn write_header<O: Sink>(alloc: Global, out: &mut O) -> Result<(), Pr
     }
 }
 
-// Writes the row of an item. The buffer, which holds it for that time, may have anything before.
-pub(crate) fn write_row<O: Sink>(
+// Writes the rows of items, all at once. The buffer, which holds them for that time, may have anything
+// before.
+pub(crate) fn write_rows<O: Sink>(
     buffer: &mut Vec<u8>,
     clock: &Clock,
-    item: &Item,
+    items: &[Item],
     out: &mut O,
 ) -> Result<(), PrintFault>
     requires clock { IsClock clock.now }
-    requires within { IsItemInRange item.now }
-    ensures { HandsOver (item_row clock.now item.now) (writing_of O.Sink out.old out.new) result }
+    requires within { All IsItemInRange items.now }
+    ensures { HandsOver (item_rows clock.now items.now) (writing_of O.Sink out.old out.new) result }
 {
     buffer.clear();
-    match push_row(buffer, clock, item) {
+    match push_rows(buffer, clock, items) {
         Ok(()) => write_bytes(buffer.as_slice(), out),
         Err(AllocError) => Err(PrintFault::OutOfMemory),
     }

@@ -1,5 +1,5 @@
 -- What a session was given, and what is printed then.
-use Rattle.std.proofs.Common.{◌≡◌, ℕ, ◌+◌, ◌≤◌, suc, Bool, false, List, [], ◌∷◌, ◌++◌, get_or, length, take, slice_get, Some, Result, Err, refl, sym, ap, ◌∙◌, subst, arith, ◌⊎◌, inl, inr}
+use Rattle.std.proofs.Common.{◌≡◌, ℕ, ◌+◌, ◌≤◌, zero, suc, Bool, false, List, [], ◌∷◌, ◌++◌, get_or, length, take, slice_get, Some, Result, Err, refl, sym, ap, ◌∙◌, subst, arith, ◌⊎◌, inl, inr}
 use Rattle.std.specs.List as elements
 use Rattle.std.proofs.lemmas.List.{append-nil, append_assoc, take_more}
 use Rattle.std.proofs.lemmas.Option.{get_or_from_slice_get, slice_get-get_or, slice_get_within}
@@ -27,7 +27,7 @@ use Rattle.query_session.specs.Session.{AnswersAt, FoundStop, IsIdle, TriedTurn,
 use Rattle.progress_words.specs.PassView.{after_stop, reader_part}
 use Rattle.lane_workers.specs.declared.printer.PrintFault.{PrintFault}
 use Rattle.lane_workers.specs.declared.printer.PrintFault.TheVariants as fault
-use Rattle.lane_workers.specs.Printing.{BreaksAmong, ExtendsBy, is_failed}
+use Rattle.lane_workers.specs.Printing.{BreaksAmong, Extends, is_failed}
 
 -- ---- what a session was given
 
@@ -91,6 +91,14 @@ next_front all (x ∷ rest) k following =
 first_next : (all xs : List items.Item) (k n : ℕ) → AreNext all k xs → AreNext all k (take n xs)
 first_next all xs k n following i x e = following i x (get_take n i xs x e)
 
+-- one item is next
+pub one_next : (all : List items.Item) (k : ℕ) (x : items.Item) → slice_get all k ≡ Some x →
+    AreNext all k (x ∷ [])
+one_next all k x e zero y is =
+    let same : k ≡ k + 0 = omega arith in
+    sym (ap (slice_get all) same) ∙ (e ∙ is)
+one_next all k x e (suc i) y is = absurd cc
+
 -- what holds of the front with the first of the next items holds of a front
 pub front_broken : (all xs : List items.Item) (k : ℕ) (before after : List items.Item → Type 0) →
     AreNext all k xs → before (take k all) → BreaksAmong before xs after → (n : ℕ) × after (take n all)
@@ -103,7 +111,7 @@ front_broken all xs k before after following h broken =
 
 -- what was printed, and then several items
 pub several_printed : (all xs slice : List items.Item) (k : ℕ) (before after : List items.Item → Type 0) →
-    slice ≡ xs → AreNext all k xs → ExtendsBy before slice after → before (take k all) →
+    slice ≡ xs → AreNext all k xs → Extends before slice after → before (take k all) →
     after (take (k + length xs) all)
 several_printed all xs slice k before after same following extends h =
     subst after (next_front all xs k following)

@@ -1,6 +1,5 @@
 // A printer that keeps the items.
 ghost use Rattle.std.specs.Prelude.{◌≡◌, true};
-ghost use Rattle.lane_workers.specs.Printing.{IsOneMore};
 
 use crate::printer::{PrintFault, Printer};
 use pq_items::Item;
@@ -18,14 +17,14 @@ impl Printer for Collector {
 
     ghost printed = { λ c h. c.items.items ≡ h };
 
-    ghost broke = { λ c h. IsOneMore c.items.items h };
+    ghost broke = { λ c h. c.items.items ≡ h };
 
     ghost count = { λ _. 0 };
 
     ghost counts_each = { true };
 
-    fn print(&mut self, item: &Item) -> Result<(), PrintFault> {
-        if self.items.push(*item).is_err() {
+    fn print(&mut self, items: &[Item]) -> Result<(), PrintFault> {
+        if self.items.extend_from_slice(items).is_err() {
             return Err(PrintFault::OutOfMemory);
         }
         Ok(())

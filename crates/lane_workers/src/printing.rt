@@ -1,10 +1,7 @@
 // The caller's part: it prints each item as its session is given it.
-ghost use Rattle.std.specs.Prelude.{◌≡◌, ◌≤◌, All, OnErr, OnOk, Err};
-ghost use Rattle.lane_workers.specs.Printing.{BreaksAmong, ExtendsBy, is_failed};
+ghost use Rattle.std.specs.Prelude.{◌≡◌};
 ghost use Rattle.lane_workers.specs.Running.{CanPrint, HasRun, IsPrinting, TurnGives, recording_of, run_of};
-ghost use Rattle.pq_base.specs.Causes.{CountsOnce, Rose};
 ghost use Rattle.pq_base.specs.Recorded.{IsRecording};
-ghost use Rattle.pq_items.specs.ItemRange.{IsItemInRange};
 ghost use Rattle.progress_words.specs.PassView.{after_stop};
 ghost use Rattle.query_session.specs.Session.{IsIdle, IsSessionOf, view_of};
 
@@ -52,11 +49,11 @@ fn print_next<P: Printer>(
     ensures gives { TurnGives P.Printer session.old session.new printer.old printer.new result }
 {
     let next = session.next_several(chain, items);
-    if let Err(fault) = print_each(items.as_slice(), printer) {
+    if let Err(fault) = printer.print(items.as_slice()) {
         return Some(broken_off(chain, session, fault));
     }
     match next {
-        Next::Item(item) => match printer.print(&item) {
+        Next::Item(item) => match printer.print(&[item]) {
             Ok(()) => None,
             Err(fault) => Some(broken_off(chain, session, fault)),
         },
@@ -68,23 +65,6 @@ fn print_next<P: Printer>(
             None
         }
     }
-}
-
-// Prints items one after another, up to the first that isn't printed.
-fn print_each<P: Printer>(items: &[Item], printer: &mut P) -> Result<(), PrintFault>
-    requires { All IsItemInRange items.now }
-    ensures made { P.made printer.new ≡ P.made printer.old }
-    ensures count { P.count printer.old ≤ P.count printer.new }
-    ensures printed { OnOk result (ExtendsBy (P.printed printer.old) items.now (P.printed printer.new)) }
-    ensures broke { OnErr result (BreaksAmong (P.printed printer.old) items.now (P.broke printer.new)) }
-    ensures failed { result ≡ Err PrintFault.Failed → Rose (P.count printer.old) (P.count printer.new) }
-    ensures counted { CountsOnce P.counts_each (P.count printer.old) (P.count printer.new)
-        (is_failed result) }
-{
-    for item in items {
-        printer.print(item)?;
-    }
-    Ok(())
 }
 
 // Halts the chain, where the printer broke off.

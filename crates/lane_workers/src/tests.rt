@@ -1,7 +1,6 @@
 // Runs in threads, over a worked recording of one channel, which has three lanes.
 ghost use Rattle.std.specs.Prelude.{◌≡◌, ◌≤◌, length, All, IfOk, IfSome, true};
 ghost use Rattle.event_detect.specs.Threshold.{IsInOrder};
-ghost use Rattle.lane_workers.specs.Printing.{IsOneMore};
 ghost use Rattle.pq_base.specs.Causes.{next_count};
 ghost use Rattle.pq_base.specs.Recorded.{IsRecording};
 ghost use Rattle.pq_words.specs.Magnitude.{IsWithin};
@@ -27,10 +26,10 @@ const SAMPLES: usize = 14_424;
 
 const PRINTED: usize = 5;
 
-// A printer that keeps so many items, and fails at the next.
+// A printer that has room for so many items, and fails at the next.
 #[derive(Drop)]
 struct FailsAfter {
-    left: usize,
+    room: usize,
     items: Vec<Item>,
     faults: u64,
 }
@@ -42,21 +41,22 @@ impl Printer for FailsAfter {
 
     ghost printed = { λ p h. p.items.items ≡ h };
 
-    ghost broke = { λ p h. IsOneMore p.items.items h };
+    ghost broke = { λ p h. p.items.items ≡ h };
 
     ghost count = { λ p. p.faults };
 
     ghost counts_each = { true };
 
-    fn print(&mut self, item: &Item) -> Result<(), PrintFault> {
-        if self.left == 0 {
+    fn print(&mut self, items: &[Item]) -> Result<(), PrintFault> {
+        let kept = self.room.min(items.len());
+        if self.items.extend_from_slice(&items[..kept]).is_err() {
+            return Err(PrintFault::OutOfMemory);
+        }
+        self.room -= kept;
+        if kept < items.len() {
             self.faults = one_more(self.faults);
             return Err(PrintFault::Failed);
         }
-        if self.items.push(*item).is_err() {
-            return Err(PrintFault::OutOfMemory);
-        }
-        self.left -= 1;
         Ok(())
     }
 
@@ -181,7 +181,7 @@ fn a_failed_print_halts_the_chain(rt: HostRuntime) -> Result<(), Fail> {
         return Err(Fail::from(AllocError));
     };
     let mut printer = FailsAfter {
-        left: PRINTED,
+        room: PRINTED,
         items: Vec::new(alloc),
         faults: 0,
     };

@@ -12,9 +12,6 @@ use pq_base::{ReadAll, Shelf};
 use status_text::Status;
 use std::alloc::Global;
 
-// How many bytes are asked for at once: enough that several threads are worth their start.
-const PIECE: usize = 4_194_304;
-
 /// Feeds a reader with the dat of this name, piece by piece, or gives the status of a call that can't have
 /// it. The shelf is asked for it once, and all of it is read, whatever the reader finds in it.
 pub fn feed_dat<T: Taking, K: Shelf>(
@@ -29,7 +26,7 @@ pub fn feed_dat<T: Taking, K: Shelf>(
         result }
     ensures files { K.files shelf.new ≡ K.files shelf.old }
 {
-    match vec![in alloc; 0u8; PIECE] {
+    match vec![in alloc; 0u8; taking.bytes_at_once()] {
         Ok(mut piece) => feed_by(taking, shelf, name, reader, piece.as_mut_slice()),
         Err(_) => Err(Status::OutOfMemory),
     }

@@ -98,9 +98,13 @@ header = row_of header_fields
 unfoldable pub item_row : Clock → Item → Text
 item_row clock i = row_of (row_fields clock i)
 
+-- a row for each item
+abbrev pub item_rows : Clock → List Item → Text
+item_rows clock items = flat_map (item_row clock) items
+
 -- the text of a report: the header, and a row for each item
 abbrev pub rows_text : Clock → List Item → Text
-rows_text clock items = header ++ flat_map (item_row clock) items
+rows_text clock items = header ++ item_rows clock items
 
 -- ---- how rows are written
 

@@ -6,7 +6,7 @@ pub use laws::{needs_no_quotes, reads_back};
 pub use reading::read_report;
 pub use result_summary::summary;
 pub use rows::{header, row};
-pub use whole_report::{push_row, report};
+pub use whole_report::{push_rows, report};
 
 mod cutting;
 mod fault;

@@ -1,7 +1,7 @@
 // The text of a whole report, into one buffer.
 ghost use Rattle.std.specs.Prelude.{◌≡◌, ◌≤◌, All, IfOk, IfSome, OnOk, decimal};
 ghost use Rattle.pq_items.specs.ItemRange.{IsItemInRange, IsTickInRange};
-ghost use Rattle.pq_report.specs.ReportText.{Pushes, before_commas, item_row, moment_fields, row_of};
+ghost use Rattle.pq_report.specs.ReportText.{Pushes, before_commas, item_row, item_rows, moment_fields, row_of};
 ghost use Rattle.pq_report.specs.ReportText.{rows_text, span_fields, tick_text, value_fields};
 ghost use Rattle.pq_time.specs.Time.{IsClock};
 
@@ -23,14 +23,24 @@ pub fn report(alloc: Global, clock: &Clock, items: &[Item]) -> Result<Text, OutO
     ensures { IfOk result (λ text. text ≡ rows_text clock.now items.now) }
 {
     let mut text = Vec::from_slice(alloc, HEADER)?;
-    for item in items {
-        push_row(&mut text, clock, item)?;
-    }
+    push_rows(&mut text, clock, items)?;
     Ok(Text::new(text))
 }
 
-/// Appends the row of an item to a text. Where there is no memory, a part of it may have been appended.
-pub fn push_row(text: &mut Vec<u8>, clock: &Clock, item: &Item) -> Result<(), AllocError>
+/// Appends the rows of items to a text. Where there is no memory, a part of them may have been appended.
+pub fn push_rows(text: &mut Vec<u8>, clock: &Clock, items: &[Item]) -> Result<(), AllocError>
+    requires clock { IsClock clock.now }
+    requires within { All IsItemInRange items.now }
+    ensures { Pushes result text.old text.new (item_rows clock.now items.now) }
+{
+    for item in items {
+        push_row(text, clock, item)?;
+    }
+    Ok(())
+}
+
+// Appends the row of an item.
+fn push_row(text: &mut Vec<u8>, clock: &Clock, item: &Item) -> Result<(), AllocError>
     requires clock { IsClock clock.now }
     requires within { IsItemInRange item.now }
     ensures { Pushes result text.old text.new (item_row clock.now item.now) }

@@ -1,7 +1,10 @@
-use Rattle.std.proofs.Common.{arith}
-use Rattle.std.proofs.lemmas.Grind.{common_steps}
+use Rattle.std.proofs.Common.{rules}
+use Rattle.fixed_rms.proofs.RootLaws.{squares_within}
 use Rattle.fixed_rms.proofs.mean_root.sum_of_squares.Goals as goal
 
--- the sum is that of the whole list
-pub returns-clause-value : goal.returns-clause-value
-returns-clause-value c = grind (arith, common_steps)
+-- either way it is the sum, which is not too large
+pub returns-in-Some-clause-within : goal.returns-in-Some-clause-within
+returns-in-Some-clause-within c = search (rules, squares_within)
+
+pub returns-in-None-clause-within : goal.returns-in-None-clause-within
+returns-in-None-clause-within c = search (rules, squares_within)

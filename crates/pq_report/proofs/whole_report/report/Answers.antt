@@ -1,6 +1,8 @@
+use Rattle.std.proofs.Common.{rules}
 use Rattle.pq_report.specs.ReportText.{header}
 use Rattle.pq_report.proofs.whole_report.report.Goals as goal
 
-pub loop-item-init : goal.loop-item-init
+-- the header, and the rows
+pub returns : goal.returns
 unfolding header
-loop-item-init c = c.in_ok-text.ensures.items
+returns c = search rules

@@ -1,6 +1,6 @@
 use Rattle.std.proofs.Common.{sym, ◌∙◌, ap, arith}
 use Rattle.interval_ledger.specs.Merging.{first_left}
-use Rattle.interval_ledger.proofs.StateLaws.{channel_there, window_counts, window_fewer, window_kept, window_merges}
+use Rattle.interval_ledger.proofs.StateLaws.{channel_there, window_alone, window_counts, window_fewer, window_kept, window_merges}
 use Rattle.interval_ledger.proofs.merging.Merging.merge_window.Goals as goal
 
 -- the channel is one of the recording
@@ -26,6 +26,16 @@ returns-clause-at g c =
 pub returns-clause-same : goal.returns-clause-same
 returns-clause-same g c =
     window_kept c.args.self.now c.args.until c.args.position c.requires.until c.requires.first
+    c.in-Some.window c.add_window.new.self c.take_window.new.channels
+    (ap (λ xs. first_left xs c.args.position) (sym c.deref.ensures.value)
+    ∙ sym c.first_left.ensures
+    ∙ c.in-Some.is)
+    c.add_window.ensures.name c.take_window.ensures
+
+-- no other channel is touched
+pub returns-clause-others : goal.returns-clause-others
+returns-clause-others g c =
+    window_alone c.args.self.now c.args.until c.args.position c.requires.until c.requires.first
     c.in-Some.window c.add_window.new.self c.take_window.new.channels
     (ap (λ xs. first_left xs c.args.position) (sym c.deref.ensures.value)
     ∙ sym c.first_left.ensures
